@@ -1,0 +1,52 @@
+use Rattle.diagram.specs.CacheWords.{Clearing, clearing-start, clearing-on, clearing-end}
+use lib.ListN.{length, length-set}
+use Prim.Native.Nat.{_-_}
+use borrow.Author.Needs.{needs}
+use native.Mathlib.Omega.{arith}
+use Rattle.diagram.proofs.cache.clear.Statement.{statement}
+use Rattle.diagram.proofs.cache.clear.Tie as tie
+
+abbrev Inv-loop : tie.InvT-loop
+Inv-loop cache₀ i₀ cache i = Clearing cache₀ cache i
+
+abbrev μ-loop : tie.MeasureT-loop
+μ-loop cache₀ i₀ cache i = length cache - i
+
+loop-holds : tie.Need-loop-holds Inv-loop μ-loop
+loop-holds c = search (needs, clearing-start)
+
+mul-cache : tie.Need-mul-cache Inv-loop μ-loop
+mul-cache c = search needs
+
+slice-write-cache : tie.Need-slice-write-cache Inv-loop μ-loop
+slice-write-cache c = search needs
+
+add-i : tie.Need-add-i Inv-loop μ-loop
+add-i c = search needs
+
+loop-less : tie.Need-loop-less Inv-loop μ-loop
+loop-less c = simp length-set (omega arith)
+
+loop-again : tie.Need-loop-again Inv-loop μ-loop
+loop-again c = search (needs, clearing-on)
+
+same-length : tie.Need-same-length Inv-loop μ-loop
+same-length c = search needs
+
+returns : tie.Need-returns Inv-loop μ-loop
+returns c = search (needs, clearing-end)
+
+pub clear-spec : {M : Type 1} → statement M
+clear-spec =
+    tie.close
+    (tie.spec
+    Inv-loop
+    μ-loop
+    loop-holds
+    mul-cache
+    slice-write-cache
+    add-i
+    loop-less
+    loop-again
+    same-length
+    returns)

@@ -1,0 +1,37 @@
+use borrow.Author.Needs.{needs}
+use Rattle.diagram.specs.Collecting.{sound-down, swept-left, collected}
+use Rattle.diagram.proofs.collect.collect.Statement.{statement}
+use Rattle.diagram.proofs.collect.collect.Tie as tie
+
+sweep-requires : tie.Need-sweep-requires
+sweep-requires c κs =
+    let pre = c .before .before .before .pre in
+    (pre .held .stored .room, (pre .held .stored .numbered, (sound-down (pre .held), pre .registers)))
+
+fewer-requires : tie.Need-fewer-requires
+fewer-requires c κs = search needs
+
+rollback-requires : tie.Need-rollback-requires
+rollback-requires c κs =
+    let fewer = c .before .before in
+    let sweep = fewer .before .before .before .before in
+    let start = sweep .before .before .before .before in
+    swept-left _ _ (start .pre) (sweep .sweep .ensures) (sweep .sweep .kept .0) (fewer .fewer .ensures)
+
+same-length : tie.Need-same-length
+same-length c = search needs
+
+same-length-2 : tie.Need-same-length-2
+same-length-2 c = search needs
+
+returns : tie.Need-returns
+returns c =
+    let rollback = c .before .before .before .before in
+    let sweep = rollback .before .before .before .before .before .before .before in
+    let start = sweep .before .before .before .before in
+    collected _ _ (start .pre) (sweep .sweep .ensures) (rollback .rollback .ensures)
+
+pub collect-spec : {M : Type 1} → statement M
+collect-spec =
+    tie.close
+    (tie.spec sweep-requires fewer-requires rollback-requires same-length same-length-2 returns)

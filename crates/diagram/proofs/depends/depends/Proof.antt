@@ -1,0 +1,55 @@
+-- Marks from low numbers up: a node's children are marked before it.
+use borrow.Author.Needs.{needs}
+use Prim.Native.Nat.{_-_}
+use Rattle.diagram.specs.Depends.{Marking, marking-start, marking-parent, marking-more, marking-end}
+use Rattle.diagram.proofs.depends.depends.Statement.{statement}
+use Rattle.diagram.proofs.depends.depends.Tie as tie
+
+abbrev Inv-loop : tie.InvT-loop
+Inv-loop store₀ j last m₀ store m = Marking j store₀ store last m
+
+abbrev μ-loop : tie.MeasureT-loop
+μ-loop store₀ j last m₀ store m = last - m
+
+loop-holds : tie.Need-loop-holds Inv-loop μ-loop
+loop-holds c = marking-start _ _ _
+
+add-mark-node : tie.Need-add-mark-node Inv-loop μ-loop
+add-mark-node c = search needs
+
+mark-node-requires : tie.Need-mark-node-requires Inv-loop μ-loop
+mark-node-requires c κs = search (needs, marking-parent)
+
+add-m : tie.Need-add-m Inv-loop μ-loop
+add-m c = search needs
+
+loop-less : tie.Need-loop-less Inv-loop μ-loop
+loop-less c = search needs
+
+loop-again : tie.Need-loop-again Inv-loop μ-loop
+loop-again c = search (needs, marking-more)
+
+mark-requires : tie.Need-mark-requires Inv-loop μ-loop
+mark-requires c κs = search needs
+
+same-length : tie.Need-same-length Inv-loop μ-loop
+same-length c = search needs
+
+returns : tie.Need-returns Inv-loop μ-loop
+returns c = search (needs, marking-end)
+
+pub depends-spec : {M : Type 1} → statement M
+depends-spec =
+    tie.close
+    (tie.spec
+    Inv-loop
+    μ-loop
+    loop-holds
+    add-mark-node
+    mark-node-requires
+    add-m
+    loop-less
+    loop-again
+    mark-requires
+    same-length
+    returns)

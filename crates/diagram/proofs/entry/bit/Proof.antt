@@ -1,0 +1,16 @@
+use Rattle.diagram.specs.Entry.{bit-true, bit-false}
+use borrow.Author.Needs.{needs}
+use Rattle.diagram.proofs.entry.bit.Statement.{statement}
+use Rattle.diagram.proofs.entry.bit.Tie as tie
+
+has-requires : tie.Need-has-requires
+has-requires c κs = search needs
+
+returns : tie.Need-returns
+returns c = search (needs, bit-true)
+
+returns-2 : tie.Need-returns-2
+returns-2 c = search (needs, bit-false)
+
+pub bit-spec : {M : Type 1} → statement M
+bit-spec = tie.close (tie.spec has-requires returns returns-2)

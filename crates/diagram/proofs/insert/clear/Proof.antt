@@ -1,0 +1,46 @@
+use Prim.Native.Nat.{_≤_, _-_}
+use Rattle.diagram.specs.Insert.{Cleared, cleared-none, cleared-more, cleared-all}
+use borrow.Author.Needs.{needs}
+use Rattle.diagram.proofs.insert.clear.Statement.{statement}
+use Rattle.diagram.proofs.insert.clear.Tie as tie
+
+abbrev Inv-loop : tie.InvT-loop
+Inv-loop s₀ buckets b₀ s b = Cleared s₀ s b × (b ≤ buckets)
+
+abbrev μ-loop : tie.MeasureT-loop
+μ-loop s₀ buckets b₀ s b = buckets - b
+
+loop-holds : tie.Need-loop-holds Inv-loop μ-loop
+loop-holds c = search (needs, cleared-none)
+
+set-requires : tie.Need-set-requires Inv-loop μ-loop
+set-requires c κs = search needs
+
+add-b : tie.Need-add-b Inv-loop μ-loop
+add-b c = search needs
+
+loop-less : tie.Need-loop-less Inv-loop μ-loop
+loop-less c = search needs
+
+loop-again : tie.Need-loop-again Inv-loop μ-loop
+loop-again c = search (needs, cleared-more)
+
+same-length : tie.Need-same-length Inv-loop μ-loop
+same-length c = search needs
+
+returns : tie.Need-returns Inv-loop μ-loop
+returns c = search (needs, cleared-all)
+
+pub clear-spec : {M : Type 1} → statement M
+clear-spec =
+    tie.close
+    (tie.spec
+    Inv-loop
+    μ-loop
+    loop-holds
+    set-requires
+    add-b
+    loop-less
+    loop-again
+    same-length
+    returns)

@@ -1,0 +1,35 @@
+use borrow.Author.Needs.{needs}
+use native.Mathlib.Omega.{arith}
+use Rattle.diagram.specs.Roots.{rooted-start, reaches}
+use Rattle.diagram.proofs.mark.reach.Statement.{statement}
+use Rattle.diagram.proofs.mark.reach.Tie as tie
+
+unmark-requires : tie.Need-unmark-requires
+unmark-requires c κs = search needs
+
+roots-requires : tie.Need-roots-requires
+roots-requires c κs = search needs
+
+spread-requires : tie.Need-spread-requires
+spread-requires c κs =
+    let roots = c .before .before .before in
+    let unmark = roots .before .before .before .before in
+    let start = unmark .before .before .before in
+    let rooted = roots .roots .ensures .on _ (rooted-start (unmark .unmark .ensures)) in
+    (omega (arith, start .pre .0, unmark .unmark .kept .0, roots .roots .kept .0), rw (rooted .kept) (start .pre .1 .0))
+
+same-length : tie.Need-same-length
+same-length c = search needs
+
+returns : tie.Need-returns
+returns c =
+    let spread = c .before .before in
+    let roots = spread .before .before .before .before in
+    let unmark = roots .before .before .before .before in
+    let start = unmark .before .before .before in
+    let rooted = roots .roots .ensures .on _ (rooted-start (unmark .unmark .ensures)) in
+    reaches (start .pre .1 .1 .valid) rooted (spread .spread .ensures)
+
+pub reach-spec : {M : Type 1} → statement M
+reach-spec =
+    tie.close (tie.spec unmark-requires roots-requires spread-requires same-length returns)

@@ -1,0 +1,62 @@
+use Rattle.diagram.specs.Mark.{Marking, marking-start, marking-end, down-children}
+use Rattle.diagram.specs.Node.{nodeAt}
+use Rattle.diagram.specs.Fields.{field}
+use lib.ListN.{length}
+use native.Mathlib.Omega.{arith}
+use Prim.Native.Nat.{_-_, _≤_}
+use mathlib.Core.Path.{_≡_, refl, _∙_}
+use Rattle.diagram.proofs.mark.spread.Statement.{statement}
+use Rattle.diagram.proofs.mark.spread.Tie as tie
+
+abbrev Inv-loop : tie.InvT-loop
+Inv-loop s₀ count n₀ s n = Marking (λ j. field s₀ 5 (j - 1)) (nodeAt s₀) count s n × (n ≤ count) × (length s ≡ length s₀)
+
+abbrev μ-loop : tie.MeasureT-loop
+μ-loop s₀ count n₀ s n = n
+
+loop-holds : tie.Need-loop-holds Inv-loop μ-loop
+loop-holds c = (marking-start _ _, omega arith, refl)
+
+look-requires : tie.Need-look-requires Inv-loop μ-loop
+look-requires c κs =
+    let loop = c .before .before in let start = loop .before .before in (
+      omega (arith, start .pre .0, loop .loop .inv),
+      (
+        loop .loop .inv .1,
+        down-children (start .pre .1) (loop .loop .inv .0 .kept) (c .before .loop-test .taken) (loop .loop .inv .1) (omega (arith, start .pre .0, loop .loop .inv .2)),
+      ),
+    )
+
+sub-n : tie.Need-sub-n Inv-loop μ-loop
+sub-n c = omega arith
+
+loop-less : tie.Need-loop-less Inv-loop μ-loop
+loop-less c = omega arith
+
+loop-again : tie.Need-loop-again Inv-loop μ-loop
+loop-again c =
+    let loop = c .before .before .before .before .before in let start = loop .before .before in
+    (c .before .before .look .ensures .on _ _ (start .pre .1) (loop .loop .inv .0), omega arith, c .before .before .look .kept .0 ∙ loop .loop .inv .2)
+
+same-length : tie.Need-same-length Inv-loop μ-loop
+same-length c = c .before .loop .inv .2
+
+returns : tie.Need-returns Inv-loop μ-loop
+returns c =
+    let start = c .before .before .before in
+    let done : c .before .loop .n ≡ 0 = omega arith in
+    marking-end _ _ _ (start .pre .1) (rw done at (c .before .loop .inv .0))
+
+pub spread-spec : {M : Type 1} → statement M
+spread-spec =
+    tie.close
+    (tie.spec
+    Inv-loop
+    μ-loop
+    loop-holds
+    look-requires
+    sub-n
+    loop-less
+    loop-again
+    same-length
+    returns)

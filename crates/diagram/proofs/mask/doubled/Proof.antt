@@ -1,0 +1,37 @@
+use mathlib.Core.Path.{_≡_}
+use Rattle.diagram.specs.Mask.{Doubling, doubling-start, doubling-on}
+use Prim.Native.Nat.{_≤_, _-_}
+use borrow.Author.Needs.{needs}
+use native.Mathlib.Omega.{arith}
+use Rattle.diagram.proofs.mask.doubled.Statement.{statement}
+use Rattle.diagram.proofs.mask.doubled.Tie as tie
+
+abbrev Inv-loop : tie.InvT-loop
+Inv-loop n i₀ r₀ i r = (i ≤ n) × Doubling i r
+
+abbrev μ-loop : tie.MeasureT-loop
+μ-loop n i₀ r₀ i r = n - i
+
+loop-holds : tie.Need-loop-holds Inv-loop μ-loop
+loop-holds c = (omega arith, doubling-start)
+
+add-requires : tie.Need-add-requires Inv-loop μ-loop
+add-requires c κs = search needs
+
+add-i : tie.Need-add-i Inv-loop μ-loop
+add-i c = search needs
+
+loop-less : tie.Need-loop-less Inv-loop μ-loop
+loop-less c = search needs
+
+loop-again : tie.Need-loop-again Inv-loop μ-loop
+loop-again c = search (needs, doubling-on)
+
+returns : tie.Need-returns Inv-loop μ-loop
+returns c =
+    let end : c .before .loop .i ≡ c .before .before .args .n = omega arith in
+    rw (← end) (c .before .loop .inv .1)
+
+pub doubled-spec : {M : Type 1} → statement M
+doubled-spec =
+    tie.close (tie.spec Inv-loop μ-loop loop-holds add-requires add-i loop-less loop-again returns)

@@ -1,0 +1,24 @@
+use Rattle.diagram.specs.Operation.{fits-edge, multiplied-edge, multiplied-full}
+use borrow.Author.Needs.{needs}
+use Rattle.diagram.proofs.operation.times.Statement.{statement}
+use Rattle.diagram.proofs.operation.times.Tie as tie
+
+enum-known-made : tie.Need-enum-known-made
+enum-known-made c = search needs
+
+enum-told : tie.Need-enum-told
+enum-told c = search needs
+
+returns : tie.Need-returns
+returns c = search (needs, multiplied-full)
+
+times-requires : tie.Need-times-requires
+times-requires c κs =
+    let start = c .before .before .before in
+    (start .pre .0, fits-edge _ (start .pre .1) (c .before .made .given .1) .weight)
+
+returns-2 : tie.Need-returns-2
+returns-2 c = search (needs, multiplied-edge)
+
+pub times-spec : {M : Type 1} → statement M
+times-spec = tie.close (tie.spec enum-known-made enum-told returns times-requires returns-2)

@@ -1,0 +1,62 @@
+-- The walk along x's chain: numbers fall along it, and no node above the place reached is x.
+use Rattle.diagram.specs.Table.{Walking, walk-start, walk-on, walk-less, walk-found, walk-end}
+use borrow.Author.Needs.{needs}
+use Rattle.diagram.proofs.table.find.Statement.{statement}
+use Rattle.diagram.proofs.table.find.Tie as tie
+
+abbrev Inv-loop : tie.InvT-loop
+Inv-loop s count buckets x b r₀ r = Walking s count buckets x r
+
+abbrev μ-loop : tie.MeasureT-loop
+μ-loop s count buckets x b r₀ r = r
+
+hash-requires : tie.Need-hash-requires Inv-loop μ-loop
+hash-requires c κs = search needs
+
+get-requires : tie.Need-get-requires Inv-loop μ-loop
+get-requires c κs = search needs
+
+loop-holds : tie.Need-loop-holds Inv-loop μ-loop
+loop-holds c = search (needs, walk-start)
+
+read-requires : tie.Need-read-requires Inv-loop μ-loop
+read-requires c κs = search needs
+
+same-requires : tie.Need-same-requires Inv-loop μ-loop
+same-requires c κs = search needs
+
+returns : tie.Need-returns Inv-loop μ-loop
+returns c = search (needs, walk-found)
+
+sub-get : tie.Need-sub-get Inv-loop μ-loop
+sub-get c = search needs
+
+get-requires-2 : tie.Need-get-requires-2 Inv-loop μ-loop
+get-requires-2 c κs = search needs
+
+loop-less : tie.Need-loop-less Inv-loop μ-loop
+loop-less c = search (needs, walk-less)
+
+loop-again : tie.Need-loop-again Inv-loop μ-loop
+loop-again c = search (needs, walk-on)
+
+returns-2 : tie.Need-returns-2 Inv-loop μ-loop
+returns-2 c = search (needs, walk-end)
+
+pub find-spec : {M : Type 1} → statement M
+find-spec =
+    tie.close
+    (tie.spec
+    Inv-loop
+    μ-loop
+    hash-requires
+    get-requires
+    loop-holds
+    read-requires
+    same-requires
+    returns
+    sub-get
+    get-requires-2
+    loop-less
+    loop-again
+    returns-2)

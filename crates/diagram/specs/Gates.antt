@@ -1,0 +1,81 @@
+-- The gates (document 01, "Gates") and `unit`, as tensors over d indices.
+use mathlib.Core.Bool.{Bool, true, false, cond, _&&_, xor, Bool·beq}
+use mathlib.Core.List.{List, [], _∷_, map}
+use Prim.Native.Nat.{ℕ, zero, suc}
+use lib.ListN.{getD}
+use Rattle.field.specs.Weight.{Weight, toWeight, 0W, 1W, negateW, imaginaryUnit, inverseRootTwo}
+use Rattle.diagram.specs.Tensor.{Tensor, Bits, input, middle, fresh}
+use Rattle.diagram.specs.Tabulate.{tabulate}
+use Rattle.diagram.specs.declared.gate.Gate.{Gate}
+use Rattle.diagram.specs.declared.gate.Gate.the-variants as gate
+
+-- "Each gate is 2 by 2 numbers, rows output (fresh), columns input (middle)": two rows of two weights
+abbrev pub Matrix : Type 0
+Matrix = List (List Weight)
+
+abbrev pub rows : Weight → Weight → Weight → Weight → Matrix
+rows a b c d = (a ∷ b ∷ []) ∷ (c ∷ d ∷ []) ∷ []
+
+-- the rows of numbers, as the code's array has them
+unfoldable pub numbers : Matrix → List (List ℕ)
+numbers m = map (map (λ (w : Weight). w .number)) m
+
+-- "X 0 1 1 0; Y 0 -i i 0; Z 1 0 0 -1; H h h h -h. Diagonal ones are 1 and: S 256, SD 65281, T 16, TD 61441."
+-- A gate on two qubits is given by its rule below, and zeros stand here.
+unfoldable pub matrix : Gate → Matrix
+matrix (gate.X q) = rows 0W 1W 1W 0W
+matrix (gate.Y q) = rows 0W (negateW imaginaryUnit) imaginaryUnit 0W
+matrix (gate.Z q) = rows 1W 0W 0W (negateW 1W)
+matrix (gate.H q) = let h = inverseRootTwo in rows h h h (negateW h)
+matrix (gate.S q) = rows 1W 0W 0W (toWeight 256)
+matrix (gate.Sd q) = rows 1W 0W 0W (toWeight 65281)
+matrix (gate.T q) = rows 1W 0W 0W (toWeight 16)
+matrix (gate.Td q) = rows 1W 0W 0W (toWeight 61441)
+matrix (gate.Cx a b) = rows 0W 0W 0W 0W
+matrix (gate.Cz a b) = rows 0W 0W 0W 0W
+matrix (gate.Sw a b) = rows 0W 0W 0W 0W
+
+-- the number of a row, or of a column in it
+abbrev pub bit : Bool → ℕ
+bit false = 0
+bit true = 1
+
+-- the entry at the values of an assignment for q's fresh and middle
+unfoldable pub onQubit : Matrix → ℕ → Bits → Weight
+onQubit m q f = getD (getD m (bit (f (fresh q))) []) (bit (f (middle q))) 0W
+
+abbrev pub equal : Bool → Bool → Bool
+equal a b = Bool·beq a b
+
+-- "CX a b: 1 where a's fresh equals its middle and b's fresh is b's middle plus a's middle modulo 2.
+--  CZ a b: fresh equals middle on both, times -1 where both are 1. SW exchanges them. Other entries are 0."
+unfoldable pub entry : Gate → Bits → Weight
+entry (gate.X q) f = onQubit (matrix (gate.X q)) q f
+entry (gate.Y q) f = onQubit (matrix (gate.Y q)) q f
+entry (gate.Z q) f = onQubit (matrix (gate.Z q)) q f
+entry (gate.H q) f = onQubit (matrix (gate.H q)) q f
+entry (gate.S q) f = onQubit (matrix (gate.S q)) q f
+entry (gate.Sd q) f = onQubit (matrix (gate.Sd q)) q f
+entry (gate.T q) f = onQubit (matrix (gate.T q)) q f
+entry (gate.Td q) f = onQubit (matrix (gate.Td q)) q f
+entry (gate.Cx a b) f =
+    cond (equal (f (fresh a)) (f (middle a)) && equal (f (fresh b)) (xor (f (middle b)) (f (middle a)))) 1W 0W
+entry (gate.Cz a b) f =
+    cond (equal (f (fresh a)) (f (middle a)) && equal (f (fresh b)) (f (middle b)))
+    (cond (f (middle a) && f (middle b)) (negateW 1W) 1W) 0W
+entry (gate.Sw a b) f =
+    cond (equal (f (fresh a)) (f (middle b)) && equal (f (fresh b)) (f (middle a))) 1W 0W
+
+unfoldable pub gateTensor : (d : ℕ) → Gate → Tensor d
+gateTensor d g = tabulate d (entry g)
+
+-- unit: "the tensor that is 1 where input equals middle for each qubit below n, else 0"
+unfoldable pub straight : ℕ → Bits → Bool
+straight zero f = true
+straight (suc n) f = straight n f && equal (f (input n)) (f (middle n))
+
+unfoldable pub unitEntry : ℕ → Bits → Weight
+unitEntry n f = cond (straight n f) 1W 0W
+
+unfoldable pub unitTensor : (d : ℕ) → ℕ → Tensor d
+unitTensor d n = tabulate d (unitEntry n)

@@ -1,0 +1,121 @@
+-- The registers after a collection: the same weights, and their nodes' new numbers.
+use mathlib.Core.Path.{_≡_, refl, ap, ap₂, _∙_}
+use mathlib.Core.Logic.{_≢_}
+use mathlib.Core.Bool.{Bool, true, false, cond}
+use mathlib.Core.List.{List, [], _∷_}
+use mathlib.Core.Option.{none, some}
+use Prim.Native.Nat.{ℕ, zero, suc, _+_, _≤_, _<_}
+use native.Mathlib.Omega.{arith}
+use native.Mathlib.Numerals.{add-one}
+use lib.ListN.{length, getD, set}
+use Rattle.field.specs.Weight.{toWeight}
+use Rattle.diagram.specs.Tensor.{scale}
+use Rattle.diagram.specs.Tally.{Set}
+use Rattle.diagram.specs.Meaning.{tensorAt, edgeIn}
+use Rattle.diagram.specs.Reaching.{AllMarked, AllValid}
+use Rattle.diagram.specs.Registers.{emptyRegister, holds, holdsAll, edgesOf, Registered}
+use Rattle.diagram.specs.declared.registers.Register.{Register}
+
+-- a filled register with its node renumbered
+unfoldable pub renumber : (ℕ → ℕ) → Register → Register
+renumber g r = cond (r .filled) (record { filled = true; edge = record { weight = r .edge .weight; node = g (r .edge .node) } }) r
+
+unfoldable pub renumberAll : (ℕ → ℕ) → List Register → List Register
+renumberAll g [] = []
+renumberAll g (r ∷ rs) = renumber g r ∷ renumberAll g rs
+
+-- the first i of them
+
+unfoldable pub renumberFirst : (ℕ → ℕ) → ℕ → List Register → List Register
+renumberFirst g zero rs = rs
+renumberFirst g (suc i) [] = []
+renumberFirst g (suc i) (r ∷ rs) = renumber g r ∷ renumberFirst g i rs
+
+pub renumber-start : (g : ℕ → ℕ) (rs : List Register) → rs ≡ renumberFirst g 0 rs
+unfolding renumberFirst
+renumber-start g rs = refl
+
+first-at : (g : ℕ → ℕ) (i : ℕ) (rs : List Register) → getD (renumberFirst g i rs) i emptyRegister ≡ getD rs i emptyRegister
+unfolding renumberFirst
+first-at g zero rs = refl
+first-at g (suc i) [] = refl
+first-at g (suc i) (r ∷ rs) = first-at g i rs
+
+pub renumber-ahead : (g : ℕ → ℕ) (i : ℕ) (rs l : List Register) → l ≡ renumberFirst g i rs → getD l i emptyRegister ≡ getD rs i emptyRegister
+renumber-ahead g i rs l e = rw e (first-at g i rs)
+
+first-set : (g : ℕ → ℕ) (i : ℕ) (rs : List Register) → i < length rs
+    → set (renumberFirst g i rs) i (renumber g (getD rs i emptyRegister)) ≡ renumberFirst g (suc i) rs
+unfolding renumberFirst
+first-set g i [] p = absurd (omega arith)
+first-set g zero (r ∷ rs) p = refl
+first-set g (suc i) (r ∷ rs) p = ap (λ l. renumber g r ∷ l) (first-set g i rs (omega arith))
+
+pub first-length : (g : ℕ → ℕ) (i : ℕ) (rs : List Register) → length (renumberFirst g i rs) ≡ length rs
+unfolding renumberFirst
+first-length g zero rs = refl
+first-length g (suc i) [] = refl
+first-length g (suc i) (r ∷ rs) = ap suc (first-length g i rs)
+
+pub renumber-on : (g : ℕ → ℕ) (i : ℕ) (rs l : List Register) (x : Register) → i < length rs → l ≡ renumberFirst g i rs → x ≡ renumber g (getD l i emptyRegister)
+    → set l i x ≡ renumberFirst g (i + 1) rs
+renumber-on g i rs l x p e q =
+    rw (add-one i, q, e, first-at g i rs) (first-set g i rs p)
+
+pub renumber-end : (g : ℕ → ℕ) (i : ℕ) (rs : List Register) → length rs ≤ i → renumberFirst g i rs ≡ renumberAll g rs
+unfolding renumberFirst renumberAll
+renumber-end g zero [] p = refl
+renumber-end g zero (r ∷ rs) p = absurd (omega arith)
+renumber-end g (suc i) [] p = refl
+renumber-end g (suc i) (r ∷ rs) p = ap (λ l. renumber g r ∷ l) (renumber-end g i rs (omega arith))
+
+all-length : (g : ℕ → ℕ) (rs : List Register) → length (renumberAll g rs) ≡ length rs
+unfolding renumberAll
+all-length g [] = refl
+all-length g (r ∷ rs) = ap suc (all-length g rs)
+
+-- numbers that agree on the marked nodes do the same
+pub renumber-ext : (g h : ℕ → ℕ) (a : ℕ → ℕ) (m : ℕ) (rs : List Register) → AllValid m (edgesOf rs) → AllMarked a (edgesOf rs)
+    → ((n : ℕ) → n ≤ m → (n ≢ 0 → a n ≢ 0) → g n ≡ h n) → renumberAll g rs ≡ renumberAll h rs
+unfolding renumberAll renumber edgesOf
+renumber-ext g h a m [] v p e = refl
+renumber-ext g h a m (r ∷ rs) v p e = go (r .filled) refl v p (renumber-ext g h a m rs)
+  where
+    go : (b : Bool) → r .filled ≡ b → AllValid m (cond b (r .edge ∷ edgesOf rs) (edgesOf rs)) → AllMarked a (cond b (r .edge ∷ edgesOf rs) (edgesOf rs))
+        → (AllValid m (edgesOf rs) → AllMarked a (edgesOf rs) → ((n : ℕ) → n ≤ m → (n ≢ 0 → a n ≢ 0) → g n ≡ h n) → renumberAll g rs ≡ renumberAll h rs)
+        → renumber g r ∷ renumberAll g rs ≡ renumber h r ∷ renumberAll h rs
+    go true q v p ih =
+        let one : g (r .edge .node) ≡ h (r .edge .node) = e (r .edge .node) (v .0 .within) (p .0) in
+        rw (q, one) (ap (λ l. record { filled = true; edge = record { weight = r .edge .weight; node = h (r .edge .node) } } ∷ l) (ih (v .1) (p .1) e))
+    go false q v p ih = rw q (ap (λ l. record { filled = false; edge = r .edge } ∷ l) (ih v p e))
+
+-- where the new numbers have the old tensors, the registers hold what they held
+module _ {d : ℕ} (ts us : Set d) (g : ℕ → ℕ) (a : ℕ → ℕ) (m k : ℕ)
+    (kept : (n : ℕ) → n ≤ m → (n ≢ 0 → a n ≢ 0) → tensorAt us (g n) ≡ tensorAt ts n)
+    (within : (n : ℕ) → n ≤ m → g n ≤ k) (zeroed : g 0 ≡ 0) where
+  pub renumber-holds : (rs : List Register) → AllValid m (edgesOf rs) → AllMarked a (edgesOf rs) → holdsAll us (renumberAll g rs) ≡ holdsAll ts rs
+  unfolding renumberAll renumber edgesOf holdsAll holds edgeIn
+  renumber-holds [] v p = refl
+  renumber-holds (r ∷ rs) v p = go (r .filled) refl v p (renumber-holds rs)
+    where
+      go : (b : Bool) → r .filled ≡ b → AllValid m (cond b (r .edge ∷ edgesOf rs) (edgesOf rs)) → AllMarked a (cond b (r .edge ∷ edgesOf rs) (edgesOf rs))
+          → (AllValid m (edgesOf rs) → AllMarked a (edgesOf rs) → holdsAll us (renumberAll g rs) ≡ holdsAll ts rs)
+          → holds us (renumber g r) ∷ holdsAll us (renumberAll g rs) ≡ holds ts r ∷ holdsAll ts rs
+      go true q v p ih =
+          rw q (ap₂ (λ T l. some (scale (toWeight (r .edge .weight)) T) ∷ l) (kept (r .edge .node) (v .0 .within) (p .0)) (ih (v .1) (p .1)))
+      go false q v p ih = rw q (ap (λ l. none ∷ l) (ih v p))
+
+  renumber-valid : (rs : List Register) → AllValid m (edgesOf rs) → AllValid k (edgesOf (renumberAll g rs))
+  unfolding renumberAll renumber edgesOf
+  renumber-valid [] v = tt
+  renumber-valid (r ∷ rs) v = go (r .filled) refl v (renumber-valid rs)
+    where
+      go : (b : Bool) → r .filled ≡ b → AllValid m (cond b (r .edge ∷ edgesOf rs) (edgesOf rs)) → (AllValid m (edgesOf rs) → AllValid k (edgesOf (renumberAll g rs)))
+          → AllValid k (edgesOf (renumber g r ∷ renumberAll g rs))
+      go true q v ih =
+          rw q
+          ((record { small = v .0 .small; within = within (r .edge .node) (v .0 .within); zero = λ z. (let n : r .edge .node ≡ 0 = v .0 .zero z in rw n zeroed) }), ih (v .1))
+      go false q v ih = rw q (ih v)
+
+  pub renumber-registered : (rs : List Register) → Registered m rs → Registered k (renumberAll g rs)
+  renumber-registered rs r = record { sixteen = all-length g rs ∙ r .sixteen; valid = renumber-valid rs (r .valid) }

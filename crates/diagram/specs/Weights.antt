@@ -1,0 +1,3 @@
+-- The field's weights, passed on to the layers above, which name no field.
+pub use Rattle.field.specs.Weight.{Weight, toWeight, 0W, 1W, plusW, timesW, negateW, sameW, onesPower, inverseW}
+pub use Rattle.field.specs.Weight.{eighthRoot, imaginaryUnit, rootTwo, inverseRootTwo}

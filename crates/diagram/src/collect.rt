@@ -1,0 +1,70 @@
+// Collection (document 01, `collect`): the nodes that no filled register reaches go, the gaps close, the order stays.
+// Marks and new numbers live in the records meanwhile; the unique table is made anew, and nothing is remembered across.
+use crate::compact;
+use crate::make::State;
+use crate::mark;
+use crate::registers::Registers;
+use crate::restore;
+ghost use mathlib.Core.Path.{_≡_};
+ghost use Prim.Native.Nat.{_*_, _≤_, _<_};
+ghost use lib.ListN.{length};
+ghost use Rattle.diagram.specs.Node.{nodeAt};
+ghost use Rattle.diagram.specs.Mark.{Down};
+ghost use Rattle.diagram.specs.Registers.{Registered};
+ghost use Rattle.diagram.specs.Collecting.{Sweeps, Collectable, Collected as Collects};
+
+struct Swept {
+    count: usize,
+    registers: Registers,
+}
+
+pub struct Collected {
+    pub state: State,
+    pub registers: Registers,
+}
+
+// Moves the reached nodes down; the answer is how many they are, and the registers with their nodes' new numbers.
+fn sweep(store: &mut [u8], count: usize, registers: Registers) -> Swept
+    requires { ⌜ (16 * count ≤ length (now store)) × ((count < 65536) × (Down (nodeAt (now store)) count × Registered count (registers .all))) ⌝ }
+    ensures { λ r. ⌜ Sweeps count (registers .all) (now (store .entry)) (now (store .exit)) (r .count) (r .registers .all) ⌝ }
+{
+    mark::reach(store, count, registers);
+    let kept = compact::compact(store, count);
+    let registers = compact::renumber(store, count, registers);
+    Swept {
+        count: kept,
+        registers,
+    }
+}
+
+// Fewer buckets for fewer nodes, so that the next table costs in proportion to the nodes.
+fn fewer(count: usize, buckets: usize) -> usize
+    ensures { λ r. ⌜ (1 ≤ buckets → (1 ≤ r) × (r ≤ buckets)) ⌝ }
+{
+    let mut b = buckets;
+    while count < b / 2 {
+        b = b / 2;
+    }
+    b
+}
+
+pub fn collect(store: &mut [u8], cache: &mut [u64], s: State, registers: Registers) -> Collected
+    requires { ⌜ Collectable (now cache) (now store) s (registers .all) ⌝ }
+    ensures { λ r. ⌜ Collects (now (cache .exit)) (now (store .entry)) (now (store .exit)) s (r .state) (registers .all) (r .registers .all) ⌝ }
+{
+    let swept = sweep(store, s.count, registers);
+    let count = swept.count;
+    let registers = swept.registers;
+    let buckets = fewer(count, s.buckets);
+    let epoch = s.epoch;
+    let state = restore::rollback(
+        store,
+        cache,
+        State {
+            count,
+            buckets,
+            epoch,
+        },
+    );
+    Collected { state, registers }
+}

@@ -1,0 +1,111 @@
+// Moves the marked nodes down. Field 5 of a node's record holds its mark, and once it has moved its new number.
+use crate::fields;
+use crate::node;
+use crate::node::Edge;
+use crate::node::Node;
+use crate::registers::Register;
+use crate::registers::Registers;
+ghost use mathlib.Core.Path.{_≡_};
+ghost use mathlib.Core.Bool.{true};
+ghost use mathlib.Core.Logic.{_≢_};
+ghost use Prim.Native.Nat.{ℕ, _+_, _*_, _-_, _≤_, _<_};
+ghost use lib.ListN.{length};
+ghost use Rattle.diagram.specs.Fields.{field};
+ghost use Rattle.diagram.specs.Node.{Narrow, Within, nodeAt};
+ghost use Rattle.diagram.specs.Compact.{Children, Closed, forward as forwarded, shifted, renumbered, Compacting, Stepped, Compacted};
+ghost use Rattle.diagram.specs.Registers.{Registered};
+ghost use Rattle.diagram.specs.Renumber.{renumber as renumberedBy, renumberAll};
+
+// The new number of the child c.
+fn forward(s: &[u8], c: usize) -> usize
+    requires { ⌜ 16 * c ≤ length (now s) ⌝ }
+    ensures { λ r. ⌜ (r ≡ forwarded (now (s .entry)) c) × (r < 65536) ⌝ }
+{
+    if c == 0 {
+        return 0;
+    }
+    fields::get(s, 5, c - 1)
+}
+
+// Node n becomes node k, with its children's new numbers.
+fn shift(s: &mut [u8], n: usize, k: usize)
+    requires { ⌜ Within (now s) n × (Within (now s) k × ((k < 65536) × Children (now s) n)) ⌝ }
+    ensures { λ _. ⌜ (now (s .exit) ≡ shifted n k (now (s .entry))) × Narrow (renumbered (forwarded (now (s .entry))) (nodeAt (now (s .entry)) n)) ⌝ }
+{
+    let x = node::read(s, n);
+    let low = forward(s, x.low.node);
+    let high = forward(s, x.high.node);
+    let y = Node {
+        index: x.index,
+        low: Edge {
+            weight: x.low.weight,
+            node: low,
+        },
+        high: Edge {
+            weight: x.high.weight,
+            node: high,
+        },
+    };
+    node::write(s, k, y);
+    fields::set(s, 5, n - 1, k);
+}
+
+// Looks at node m + 1, where k nodes have moved; the answer is how many have then.
+fn step(s: &mut [u8], count: usize, m: usize, k: usize) -> usize
+    requires { ⌜ (m < count) × ((16 * count ≤ length (now s)) × ((count < 65536) × ((k ≤ m) × (field (now s) 5 m ≢ 0 → Children (now s) (m + 1))))) ⌝ }
+    ensures { λ r. ⌜ Stepped count (now (s .entry)) (now (s .exit)) m k r ⌝ }
+{
+    let mark = fields::get(s, 5, m);
+    if mark == 0 {
+        return k;
+    }
+    let to = k + 1;
+    shift(s, m + 1, to);
+    to
+}
+
+// Moves the marked nodes of 1 .. count down; the answer is how many they are.
+pub fn compact(s: &mut [u8], count: usize) -> usize
+    requires { ⌜ (16 * count ≤ length (now s)) × ((count < 65536) × Closed (λ n. field (now s) 5 (n - 1)) (nodeAt (now s)) count) ⌝ }
+    ensures { λ r. ⌜ Compacted (now (s .entry)) (now (s .exit)) count r ⌝ }
+{
+    let mut m = 0;
+    let mut k: usize = 0;
+    while m < count {
+        k = step(s, count, m, k);
+        m += 1;
+    }
+    k
+}
+
+// A register with its node's new number.
+fn moved(s: &[u8], r: Register) -> Register
+    requires { ⌜ (r .filled ≡ true → 16 * r .edge .node ≤ length (now s)) ⌝ }
+    ensures { λ x. ⌜ x ≡ renumberedBy (forwarded (now (s .entry))) r ⌝ }
+{
+    if r.filled {
+        let weight = r.edge.weight;
+        let node = forward(s, r.edge.node);
+        return Register {
+            filled: true,
+            edge: Edge { weight, node },
+        };
+    }
+    r
+}
+
+// The registers with their nodes' new numbers.
+pub fn renumber(s: &[u8], count: usize, registers: Registers) -> Registers
+    requires { ⌜ (16 * count ≤ length (now s)) × Registered count (registers .all) ⌝ }
+    ensures { λ r. ⌜ r .all ≡ renumberAll (forwarded (now (s .entry))) (registers .all) ⌝ }
+{
+    let mut out = registers;
+    let mut i = 0;
+    while i < 16 {
+        let r = out.all[i];
+        let x = moved(s, r);
+        out.all[i] = x;
+        i += 1;
+    }
+    out
+}

@@ -1,0 +1,155 @@
+// The contraction of two tensors over a set of indices (document 01, cont).
+use crate::cache;
+use crate::cache::Found;
+use crate::cache::Key;
+use crate::cache::Op;
+use crate::edge;
+use crate::join;
+use crate::join::Made;
+use crate::make::State;
+use crate::mask;
+use crate::node::Edge;
+use crate::operation;
+use crate::sum;
+ghost use mathlib.Core.Bool.{cond};
+ghost use Prim.Native.Nat.{_≤_, _<_};
+ghost use Rattle.field.specs.Weight.{modulus};
+ghost use Rattle.diagram.specs.Tensor.{bits};
+ghost use Rattle.diagram.specs.Tally.{sum as sums, join as joins, cont};
+ghost use Rattle.diagram.specs.Engine.{tensorOf};
+ghost use Rattle.diagram.specs.Join.{Joinable};
+ghost use Rattle.diagram.specs.Operation.{Ready, Works};
+ghost use Rattle.diagram.specs.Halving.{Halfway, high};
+ghost use Rattle.diagram.specs.Contracting.{Bare, Factored, contReduced, meets};
+
+// The weights, times 2 for each member of m below k.
+fn factored(v: u64, w: u64, m: u64, k: usize) -> u64
+    requires { ⌜ (v < modulus) × ((w < modulus) × (k ≤ 24)) ⌝ }
+    ensures { λ r. ⌜ Factored v w m k r ⌝ }
+{
+    let p = mask::factor(m, k);
+    let u = field::mul(v, w);
+    field::mul(p, u)
+}
+
+pub fn contract(store: &mut [u8], cache: &mut [u64], s: State, a: Edge, b: Edge, m: u64) -> Made
+    requires { ⌜ Ready (now cache) (now store) s a b × (m < 16777216) ⌝ }
+    ensures { λ r. ⌜ Works (now (cache .exit)) (now (store .entry)) (now (store .exit)) s
+        (cont (tensorOf (now (store .entry)) s a) (tensorOf (now (store .entry)) s b) (bits m)) r ⌝ }
+{
+    let v = a.weight;
+    let w = b.weight;
+    let zero = Edge { weight: 0, node: 0 };
+    if v == 0 {
+        return Made::Edge(zero, s);
+    }
+    if w == 0 {
+        return Made::Edge(zero, s);
+    }
+    // weights and members of S below both tops are taken out: multiples share an entry
+    let k = operation::lowest(store, s, a, b);
+    let weight = factored(v, w, m, k);
+    let rest = mask::from(m, k);
+    let left = a.node;
+    let right = b.node;
+    // a constant, and no index left in S: a multiple of the other, nothing is put in
+    if rest == 0 {
+        if right == 0 {
+            let e = Edge { weight, node: left };
+            return Made::Edge(e, s);
+        }
+        if left == 0 {
+            let e = Edge {
+                weight,
+                node: right,
+            };
+            return Made::Edge(e, s);
+        }
+    }
+    let bare = Edge {
+        weight: 1,
+        node: left,
+    };
+    let other = Edge {
+        weight: 1,
+        node: right,
+    };
+    let made = contract_cached(store, cache, s, bare, other, rest);
+    operation::times(weight, made)
+}
+
+// The contraction of edges of weight 1, not both constant: remembered, or worked out and remembered.
+fn contract_cached(store: &mut [u8], cache: &mut [u64], s: State, a: Edge, b: Edge, m: u64) -> Made
+    requires { ⌜ Ready (now cache) (now store) s a b × Bare a b m ⌝ }
+    ensures { λ r. ⌜ Works (now (cache .exit)) (now (store .entry)) (now (store .exit)) s
+        (cont (tensorOf (now (store .entry)) s a) (tensorOf (now (store .entry)) s b) (bits m)) r ⌝ }
+{
+    let epoch = s.epoch;
+    let left = a.node;
+    let right = b.node;
+    let op = Op::Contract;
+    let key = Key {
+        op,
+        left,
+        right,
+        arg: m,
+    };
+    if let Found::Hit(e) = cache::lookup(cache, epoch, key) {
+        return Made::Edge(e, s);
+    }
+    let made = contract_split(store, cache, s, a, b, m);
+    operation::keep(cache, epoch, key, made);
+    made
+}
+
+// "L = cont(A0,B0,S')", and then the rest.
+fn contract_split(store: &mut [u8], cache: &mut [u64], s: State, a: Edge, b: Edge, m: u64) -> Made
+    requires { ⌜ Ready (now cache) (now store) s a b × Bare a b m ⌝ }
+    ensures { λ r. ⌜ Works (now (cache .exit)) (now (store .entry)) (now (store .exit)) s
+        (cont (tensorOf (now (store .entry)) s a) (tensorOf (now (store .entry)) s b) (bits m)) r ⌝ }
+{
+    let k = operation::lowest(store, s, a, b);
+    let rest = mask::without(m, k);
+    let a0 = edge::cofactor(store, s, a, k, false);
+    let b0 = edge::cofactor(store, s, b, k, false);
+    let Made::Edge(l, t) = contract(store, cache, s, a0, b0, rest) else {
+        return Made::Full;
+    };
+    contract_high(store, cache, t, a, b, m, k, l)
+}
+
+// "H = cont(A1,B1,S')", met with l, which is L.
+fn contract_high(
+    store: &mut [u8],
+    cache: &mut [u64],
+    s: State,
+    a: Edge,
+    b: Edge,
+    m: u64,
+    k: usize,
+    l: Edge,
+) -> Made
+    requires { ⌜ Halfway (now cache) (now store) s a b k l × (m < 16777216) ⌝ }
+    ensures { λ r. ⌜ Works (now (cache .exit)) (now (store .entry)) (now (store .exit)) s
+        (high (contReduced k m) (meets k m) k (tensorOf (now (store .entry)) s a) (tensorOf (now (store .entry)) s b) (tensorOf (now (store .entry)) s l)) r ⌝ }
+{
+    let rest = mask::without(m, k);
+    let a1 = edge::cofactor(store, s, a, k, true);
+    let b1 = edge::cofactor(store, s, b, k, true);
+    let Made::Edge(h, t) = contract(store, cache, s, a1, b1, rest) else {
+        return Made::Full;
+    };
+    meet(store, cache, t, m, k, l, h)
+}
+
+// "the answer is sum(L,H) if k is in S, else join(k,L,H)"
+fn meet(store: &mut [u8], cache: &mut [u64], s: State, m: u64, k: usize, l: Edge, h: Edge) -> Made
+    requires { ⌜ Ready (now cache) (now store) s l h × Joinable (now store) s k l h ⌝ }
+    ensures { λ r. ⌜ Works (now (cache .exit)) (now (store .entry)) (now (store .exit)) s
+        (meets k m (tensorOf (now (store .entry)) s l) (tensorOf (now (store .entry)) s h)) r ⌝ }
+{
+    if mask::has(m, k) {
+        return sum::sum(store, cache, s, l, h);
+    }
+    join::join(store, s, k, l, h)
+}

@@ -1,0 +1,87 @@
+// The entries of a gate's tensor, at an assignment whose bit k is the value of index k.
+use crate::gate;
+use crate::gate::Gate;
+use crate::mask;
+ghost use mathlib.Core.Path.{_≡_};
+ghost use mathlib.Core.List.{[]};
+ghost use Prim.Native.Nat.{_+_, _*_, _<_};
+ghost use lib.ListN.{getD};
+ghost use Rattle.field.specs.Code.{Stands};
+ghost use Rattle.diagram.specs.Tensor.{bits, middle, fresh};
+ghost use Rattle.diagram.specs.Gates.{bit as bitOf, entry as entryOf};
+ghost use Rattle.diagram.specs.Entry.{Allowed, uses as usesOf};
+
+fn bit(v: u64, k: usize) -> usize
+    requires { ⌜ k < 64 ⌝ }
+    ensures { λ r. ⌜ (r ≡ bitOf (bits v k)) × (r < 2) ⌝ }
+{
+    if mask::has(v, k) { 1 } else { 0 }
+}
+
+// A gate on the qubit q: rows are its fresh index, columns its middle one.
+fn single(m: [[u64; 2]; 2], q: usize, v: u64) -> u64
+    requires { ⌜ q < 8 ⌝ }
+    ensures { λ r. ⌜ r ≡ getD (getD m (bitOf (bits v (fresh q))) []) (bitOf (bits v (middle q))) 0 ⌝ }
+{
+    let i = bit(v, 3 * q + 2);
+    let j = bit(v, 3 * q + 1);
+    m[i][j]
+}
+
+// A gate on the qubits a and b: rows are their fresh indices, columns their middle ones, a's counting double.
+fn pair(m: [[u64; 4]; 4], a: usize, b: usize, v: u64) -> u64
+    requires { ⌜ (a < 8) × (b < 8) ⌝ }
+    ensures { λ r. ⌜ r ≡ getD (getD m (2 * bitOf (bits v (fresh a)) + bitOf (bits v (fresh b))) [])
+        (2 * bitOf (bits v (middle a)) + bitOf (bits v (middle b))) 0 ⌝ }
+{
+    let i = bit(v, 3 * a + 2);
+    let j = bit(v, 3 * b + 2);
+    let x = bit(v, 3 * a + 1);
+    let y = bit(v, 3 * b + 1);
+    let row = 2 * i + j;
+    let column = 2 * x + y;
+    m[row][column]
+}
+
+pub(crate) fn entry(g: Gate, v: u64) -> u64
+    requires { ⌜ Allowed g ⌝ }
+    ensures { λ r. ⌜ Stands r (entryOf g (bits v)) ⌝ }
+{
+    let a = gate::first(g);
+    let b = gate::second(g);
+    match g {
+        Gate::Cx(_, _) => pair(
+            [[1, 0, 0, 0], [0, 1, 0, 0], [0, 0, 0, 1], [0, 0, 1, 0]],
+            a,
+            b,
+            v,
+        ),
+        Gate::Cz(_, _) => pair(
+            [[1, 0, 0, 0], [0, 1, 0, 0], [0, 0, 1, 0], [0, 0, 0, 65536]],
+            a,
+            b,
+            v,
+        ),
+        Gate::Sw(_, _) => pair(
+            [[1, 0, 0, 0], [0, 0, 1, 0], [0, 1, 0, 0], [0, 0, 0, 1]],
+            a,
+            b,
+            v,
+        ),
+        _ => single(gate::matrix(g), a, v),
+    }
+}
+
+// Does the gate own index k, as a middle or fresh index of its qubits?
+pub(crate) fn uses(g: Gate, k: usize) -> bool
+    ensures { λ r. ⌜ r ≡ usesOf g k ⌝ }
+{
+    let q = k / 3;
+    if k % 3 == 0 {
+        return false;
+    }
+    if q == gate::first(g) {
+        return true;
+    }
+    q == gate::second(g)
+}

@@ -1,0 +1,27 @@
+// A tensor decision diagram.
+pub mod build;
+pub mod cache;
+pub mod collect;
+pub mod compact;
+pub mod compare;
+pub mod contract;
+pub mod depends;
+pub mod edge;
+mod entry;
+mod fields;
+pub mod gate;
+mod insert;
+pub mod join;
+pub mod lower;
+pub mod make;
+pub mod mark;
+pub mod mask;
+pub mod node;
+mod normalise;
+mod operation;
+pub mod registers;
+pub mod restore;
+pub mod sum;
+mod table;
+pub mod unit;
+pub mod value;

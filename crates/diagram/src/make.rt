@@ -1,0 +1,49 @@
+// Making a node: it is found in the unique table, or it becomes one more node.
+use crate::insert;
+use crate::node;
+use crate::node::Node;
+use crate::table;
+ghost use Rattle.diagram.specs.Node.{Narrow};
+ghost use Rattle.diagram.specs.Make.{Stored, Makes};
+
+// What goes with the store: its nodes and buckets, and the epoch of the results that are remembered.
+pub struct State {
+    pub count: usize,
+    pub buckets: usize,
+    pub epoch: u64,
+}
+
+// The node's number, and the state then; or there is no room for it.
+pub enum Slot {
+    At(usize, State),
+    Full,
+}
+
+pub(crate) fn make(s: &mut [u8], state: State, x: Node) -> Slot
+    requires { ⌜ Stored (now s) state × Narrow x ⌝ }
+    ensures { λ r. ⌜ Makes (now (s .entry)) (now (s .exit)) state x r ⌝ }
+{
+    let room = node::capacity(s);
+    if room == 0 {
+        return Slot::Full;
+    }
+    let count = state.count;
+    let buckets = state.buckets;
+    let r = table::find(s, count, buckets, x);
+    if r != 0 {
+        return Slot::At(r, state);
+    }
+    if room <= count {
+        return Slot::Full;
+    }
+    insert::append(s, count, buckets, x);
+    let n = count + 1;
+    let more = insert::grow(s, n, buckets);
+    let epoch = state.epoch;
+    let next = State {
+        count: n,
+        buckets: more,
+        epoch,
+    };
+    Slot::At(n, next)
+}

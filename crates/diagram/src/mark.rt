@@ -1,0 +1,98 @@
+// Marks what the marked nodes lead to. Field 5 of a node's record holds its mark.
+use crate::fields;
+use crate::node;
+use crate::registers::Register;
+use crate::registers::Registers;
+ghost use mathlib.Core.Path.{_≡_};
+ghost use mathlib.Core.Bool.{true};
+ghost use Prim.Native.Nat.{_*_, _≤_};
+ghost use lib.ListN.{length};
+ghost use Rattle.diagram.specs.Node.{Within, nodeAt};
+ghost use Rattle.diagram.specs.Compact.{Children};
+ghost use Rattle.diagram.specs.Mark.{Marks, Down, Looked, Spread};
+ghost use Rattle.diagram.specs.Registers.{edgesOf, Registered};
+ghost use Rattle.diagram.specs.Roots.{Unmarked, Root, FromRoots, Reaches};
+
+// Marks node c; 0 is no node.
+pub fn mark(s: &mut [u8], c: usize)
+    requires { ⌜ 16 * c ≤ length (now s) ⌝ }
+    ensures { λ _. ⌜ Marks (now (s .entry)) (now (s .exit)) c ⌝ }
+{
+    if c == 0 {
+        return;
+    }
+    fields::set(s, 5, c - 1, 1);
+}
+
+// Marks the children of node n, if it is marked.
+fn look(s: &mut [u8], count: usize, n: usize)
+    requires { ⌜ Within (now s) n × ((n ≤ count) × Children (now s) n) ⌝ }
+    ensures { λ _. ⌜ Looked count (now (s .entry)) (now (s .exit)) n ⌝ }
+{
+    if fields::get(s, 5, n - 1) == 0 {
+        return;
+    }
+    let x = node::read(s, n);
+    let low = x.low.node;
+    let high = x.high.node;
+    mark(s, low);
+    mark(s, high);
+}
+
+// Marks what the marked nodes of 1 .. count lead to.
+pub fn spread(s: &mut [u8], count: usize)
+    requires { ⌜ (16 * count ≤ length (now s)) × Down (nodeAt (now s)) count ⌝ }
+    ensures { λ _. ⌜ Spread (now (s .entry)) (now (s .exit)) count ⌝ }
+{
+    let mut n = count;
+    while 0 < n {
+        look(s, count, n);
+        n -= 1;
+    }
+}
+
+// Takes the marks off nodes 1 .. count.
+fn unmark(s: &mut [u8], count: usize)
+    requires { ⌜ 16 * count ≤ length (now s) ⌝ }
+    ensures { λ _. ⌜ Unmarked (now (s .entry)) (now (s .exit)) count ⌝ }
+{
+    let mut m = 0;
+    while m < count {
+        fields::set(s, 5, m, 0);
+        m += 1;
+    }
+}
+
+// Marks the node of a filled register.
+fn root(s: &mut [u8], r: Register)
+    requires { ⌜ (r .filled ≡ true → 16 * r .edge .node ≤ length (now s)) ⌝ }
+    ensures { λ _. ⌜ Root r (now (s .entry)) (now (s .exit)) ⌝ }
+{
+    if r.filled {
+        mark(s, r.edge.node);
+    }
+}
+
+// Marks the nodes of the filled registers.
+fn roots(s: &mut [u8], count: usize, registers: Registers)
+    requires { ⌜ (16 * count ≤ length (now s)) × Registered count (registers .all) ⌝ }
+    ensures { λ _. ⌜ FromRoots count (registers .all) (now (s .entry)) (now (s .exit)) ⌝ }
+{
+    let all = registers.all;
+    let mut i = 0;
+    while i < 16 {
+        let r = all[i];
+        root(s, r);
+        i += 1;
+    }
+}
+
+// Marks what the filled registers lead to, and nothing else.
+pub fn reach(s: &mut [u8], count: usize, registers: Registers)
+    requires { ⌜ (16 * count ≤ length (now s)) × (Down (nodeAt (now s)) count × Registered count (registers .all)) ⌝ }
+    ensures { λ _. ⌜ Reaches count (edgesOf (registers .all)) (now (s .entry)) (now (s .exit)) ⌝ }
+{
+    unmark(s, count);
+    roots(s, count, registers);
+    spread(s, count);
+}

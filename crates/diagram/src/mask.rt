@@ -1,0 +1,73 @@
+// A set of indices, as the bits of a number.
+ghost use mathlib.Core.Path.{_≡_};
+ghost use Prim.Native.Nat.{_^_, _%_, _≤_, _<_};
+ghost use Rattle.field.specs.Code.{Stands};
+ghost use Rattle.diagram.specs.Tensor.{bits, members, power2};
+ghost use Rattle.diagram.specs.Mask.{Without, Rest};
+
+fn bit(k: usize) -> u64
+    requires { ⌜ k < 64 ⌝ }
+    ensures { λ r. ⌜ r ≡ 2 ^ k ⌝ }
+{
+    1 << k
+}
+
+// Is k a member of m?
+pub fn has(m: u64, k: usize) -> bool
+    requires { ⌜ k < 64 ⌝ }
+    ensures { λ r. ⌜ r ≡ bits m k ⌝ }
+{
+    (m >> k) % 2 == 1
+}
+
+// m without k.
+pub fn without(m: u64, k: usize) -> u64
+    requires { ⌜ k < 64 ⌝ }
+    ensures { λ r. ⌜ Without m k r ⌝ }
+{
+    if has(m, k) {
+        let b = bit(k);
+        return m - b;
+    }
+    m
+}
+
+// 2 to the power n.
+fn doubled(n: u32) -> u64
+    ensures { λ r. ⌜ Stands r (power2 n) ⌝ }
+{
+    let mut i: u32 = 0;
+    let mut r: u64 = 1;
+    while i < n {
+        r = field::add(r, r);
+        i += 1;
+    }
+    r
+}
+
+// The members of m below k.
+fn below(m: u64, k: usize) -> u64
+    requires { ⌜ k < 64 ⌝ }
+    ensures { λ r. ⌜ (r ≡ m % 2 ^ k) × (r ≤ m) ⌝ }
+{
+    let b = bit(k);
+    m % b
+}
+
+// 2 to the count of members below k.
+pub fn factor(m: u64, k: usize) -> u64
+    requires { ⌜ k < 64 ⌝ }
+    ensures { λ r. ⌜ Stands r (power2 (members k (bits m))) ⌝ }
+{
+    let b = below(m, k);
+    doubled(u64::count_ones(b))
+}
+
+// The members of m from k on.
+pub fn from(m: u64, k: usize) -> u64
+    requires { ⌜ k < 64 ⌝ }
+    ensures { λ r. ⌜ Rest m k r ⌝ }
+{
+    let b = below(m, k);
+    m - b
+}

@@ -1,0 +1,88 @@
+// A node, and its record in the store.
+use crate::fields;
+ghost use mathlib.Core.Path.{_≡_};
+ghost use Rattle.diagram.specs.Told.{Told};
+ghost use Rattle.diagram.specs.Node.{capacity as capacityOf, Within, Narrow, nodeAt, putNode};
+
+// A weight times a node's tensor; node 0 is the constant 1.
+pub struct Edge {
+    pub weight: u64,
+    pub node: usize,
+}
+
+pub struct Node {
+    pub index: usize,
+    pub low: Edge,
+    pub high: Edge,
+}
+
+pub(crate) fn same_edge(a: Edge, b: Edge) -> bool
+    ensures { λ r. ⌜ Told (a ≡ b) r ⌝ }
+{
+    if a.weight != b.weight {
+        return false;
+    }
+    if a.node != b.node {
+        return false;
+    }
+    true
+}
+
+pub(crate) fn same(x: Node, y: Node) -> bool
+    ensures { λ r. ⌜ Told (x ≡ y) r ⌝ }
+{
+    if x.index != y.index {
+        return false;
+    }
+    if same_edge(x.low, y.low) {
+        return same_edge(x.high, y.high);
+    }
+    false
+}
+
+// The most nodes that the store holds.
+pub fn capacity(s: &[u8]) -> usize
+    ensures { λ r. ⌜ r ≡ capacityOf (now (s .entry)) ⌝ }
+{
+    let n = s.len() / 16;
+    if n < 65535 { n } else { 65535 }
+}
+
+// Node n.
+pub fn read(s: &[u8], n: usize) -> Node
+    requires { ⌜ Within (now s) n ⌝ }
+    ensures { λ r. ⌜ (r ≡ nodeAt (now (s .entry)) n) × Narrow r ⌝ }
+{
+    let i = n - 1;
+    let a = fields::get(s, 0, i);
+    let b = fields::get(s, 1, i);
+    let c = fields::get(s, 2, i);
+    let d = fields::get(s, 3, i);
+    let high = c + 65536 * (a / 512 % 2);
+    Node {
+        index: a % 256,
+        low: Edge {
+            weight: (a / 256 % 2) as u64,
+            node: b,
+        },
+        high: Edge {
+            weight: high as u64,
+            node: d,
+        },
+    }
+}
+
+// Writes node n.
+pub fn write(s: &mut [u8], n: usize, x: Node)
+    requires { ⌜ Within (now s) n × Narrow x ⌝ }
+    ensures { λ _. ⌜ now (s .exit) ≡ putNode (now (s .entry)) n x ⌝ }
+{
+    let i = n - 1;
+    let low = x.low.weight as usize;
+    let high = x.high.weight as usize;
+    let packed = x.index + 256 * low + 512 * (high / 65536);
+    fields::set(s, 0, i, packed);
+    fields::set(s, 1, i, x.low.node);
+    fields::set(s, 2, i, high % 65536);
+    fields::set(s, 3, i, x.high.node);
+}

@@ -1,0 +1,71 @@
+// Sixteen registers, each empty or an edge, by value.
+use crate::node::Edge;
+ghost use mathlib.Core.Path.{_≡_};
+ghost use Prim.Native.Nat.{_<_};
+ghost use lib.ListN.{set};
+ghost use Rattle.diagram.specs.Registers.{emptyRegister, emptied, filledWith, Reads};
+
+pub struct Register {
+    pub filled: bool,
+    pub edge: Edge,
+}
+
+pub struct Registers {
+    pub all: [Register; 16],
+}
+
+// All empty.
+pub fn empty() -> Registers
+    ensures { λ r. ⌜ r .all ≡ emptied ⌝ }
+{
+    let edge = Edge { weight: 0, node: 0 };
+    let none = Register {
+        filled: false,
+        edge,
+    };
+    Registers { all: [none; 16] }
+}
+
+// What a register holds.
+pub enum Held {
+    Edge(Edge),
+    Empty,
+}
+
+pub fn get(registers: Registers, i: usize) -> Held
+    requires { ⌜ i < 16 ⌝ }
+    ensures { λ r. ⌜ Reads (registers .all) i r ⌝ }
+{
+    let r = registers.all[i];
+    if r.filled {
+        let e = r.edge;
+        return Held::Edge(e);
+    }
+    Held::Empty
+}
+
+// Register i set to an edge.
+pub fn put(registers: Registers, i: usize, edge: Edge) -> Registers
+    requires { ⌜ i < 16 ⌝ }
+    ensures { λ r. ⌜ r .all ≡ set (registers .all) i (filledWith edge) ⌝ }
+{
+    let mut next = registers;
+    let r = Register { filled: true, edge };
+    next.all[i] = r;
+    next
+}
+
+// Register i emptied.
+pub fn clear(registers: Registers, i: usize) -> Registers
+    requires { ⌜ i < 16 ⌝ }
+    ensures { λ r. ⌜ r .all ≡ set (registers .all) i emptyRegister ⌝ }
+{
+    let mut next = registers;
+    let edge = Edge { weight: 0, node: 0 };
+    let r = Register {
+        filled: false,
+        edge,
+    };
+    next.all[i] = r;
+    next
+}

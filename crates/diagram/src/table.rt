@@ -1,0 +1,37 @@
+// The unique table: a hash table whose chains run through the records.
+use crate::fields;
+use crate::node;
+use crate::node::Node;
+ghost use mathlib.Core.Path.{_≡_};
+ghost use Prim.Native.Nat.{_≤_, _<_};
+ghost use Rattle.diagram.specs.Node.{Narrow, nodeAt};
+ghost use Rattle.diagram.specs.Table.{hash as hashed, Indexed, Found};
+
+// The bucket of a node: its parts times large odd numbers, whose sum differs in its middle bits for most nodes.
+pub(crate) fn hash(buckets: usize, x: Node) -> usize
+    requires { ⌜ (1 ≤ buckets) × Narrow x ⌝ }
+    ensures { λ r. ⌜ (r ≡ hashed buckets x) × (r < buckets) ⌝ }
+{
+    let m = x.index * 2654435761
+        + x.low.weight as usize * 2246822519
+        + x.low.node * 3266489917
+        + x.high.weight as usize * 668265263
+        + x.high.node * 374761393;
+    m / 65536 % buckets
+}
+
+// The number of the node x, or 0 where there is none.
+pub(crate) fn find(s: &[u8], count: usize, buckets: usize, x: Node) -> usize
+    requires { ⌜ Indexed (now s) count buckets × Narrow x ⌝ }
+    ensures { λ r. ⌜ Found (nodeAt (now (s .entry))) count x r ⌝ }
+{
+    let b = hash(buckets, x);
+    let mut r = fields::get(s, 4, b);
+    while r != 0 {
+        if node::same(node::read(s, r), x) {
+            return r;
+        }
+        r = fields::get(s, 5, r - 1);
+    }
+    r
+}

@@ -1,0 +1,2 @@
+-- Document 01, "Marked", and its session printed whole.
+pub mod Cases

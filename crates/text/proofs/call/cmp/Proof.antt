@@ -1,0 +1,16 @@
+use borrow.Author.Needs.{needs}
+use Rattle.text.specs.Calls.{callOf, byCount}
+use Rattle.text.proofs.Arity.{not-two}
+use Rattle.text.proofs.call.cmp.Statement.{statement}
+use Rattle.text.proofs.call.cmp.Tie as tie
+
+returns : tie.Need-returns
+unfolding callOf
+returns c = not-two _ _ _ (c .match .keys2)
+
+returns-2 : tie.Need-returns-2
+unfolding callOf byCount
+returns-2 c = rw (c .before .before .before .args2 .given .1, c .registered2 .ensures, c .before .registered .ensures)
+
+pub cmp-spec : {M : Type 1} → statement M
+cmp-spec = tie.close (tie.spec (λ c. search needs) returns (λ c κs. search needs) (λ c κs. search needs) returns-2)

@@ -1,0 +1,65 @@
+// A session's answers, and their printed bytes.
+use crate::call::Refusal;
+use crate::print;
+ghost use mathlib.Core.Path.{_≡_};
+ghost use Prim.Native.Nat.{_+_, _≤_, _<_};
+ghost use lib.ListN.{length};
+ghost use Rattle.text.specs.Calls.{refusalNumber};
+ghost use Rattle.text.specs.Answers.{printed, Small, Printed};
+ghost use Rattle.text.specs.Print.{Wrote, ended};
+
+pub enum Answer {
+    Ok(usize),
+    No(Refusal),
+    Value(usize),
+    Same,
+    Factor(usize),
+    Differ,
+}
+
+// Document 01's number of a refusal.
+pub fn number_of(r: Refusal) -> usize
+    ensures { λ n. ⌜ (n ≡ refusalNumber r) × (n ≤ 65536) ⌝ }
+{
+    match r {
+        Refusal::Malformed => 1,
+        Refusal::Register => 2,
+        Refusal::Empty => 3,
+        Refusal::Range => 4,
+        Refusal::Name => 5,
+        Refusal::Equal => 6,
+        Refusal::Depends => 7,
+        Refusal::Full => 8,
+    }
+}
+
+// Puts a word with its tab, and a number, as a line; the answer is the place after it.
+fn pair(out: &mut [u8], at: usize, word: &[u8], n: usize) -> usize
+    requires { ⌜ (at + 16 ≤ length (now out)) × ((length (now word) < 10) × (n ≤ 65536)) ⌝ }
+    ensures { λ r. ⌜ Wrote (now (out .entry)) at (ended (now (word .entry)) n) (now (out .exit)) r ⌝ }
+{
+    let e = print::labelled(out, at, word, n);
+    print::bytes(out, e, b"\n")
+}
+
+fn put(out: &mut [u8], at: usize, answer: Answer) -> usize
+    requires { ⌜ (at + 16 ≤ length (now out)) × Small answer ⌝ }
+    ensures { λ r. ⌜ Wrote (now (out .entry)) at (printed answer) (now (out .exit)) r ⌝ }
+{
+    match answer {
+        Answer::Ok(n) => pair(out, at, b"ok\t", n),
+        Answer::No(r) => pair(out, at, b"no\t", number_of(r)),
+        Answer::Value(w) => pair(out, at, b"v\t", w),
+        Answer::Same => print::bytes(out, at, b"same\n"),
+        Answer::Factor(f) => pair(out, at, b"factor\t", f),
+        Answer::Differ => print::bytes(out, at, b"differ\n"),
+    }
+}
+
+// Writes an answer at a place, and answers how many bytes it has.
+pub fn write(out: &mut [u8], at: usize, answer: Answer) -> usize
+    requires { ⌜ (at + 16 ≤ length (now out)) × Small answer ⌝ }
+    ensures { λ r. ⌜ Printed (now (out .entry)) at answer (now (out .exit)) r ⌝ }
+{
+    put(out, at, answer) - at
+}

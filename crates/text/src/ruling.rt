@@ -1,0 +1,53 @@
+// A verdict's answer, and its printed bytes.
+use crate::answer;
+use crate::answer::Answer;
+use crate::print;
+use crate::verdict::Fault;
+ghost use mathlib.Core.Path.{_≡_};
+ghost use Prim.Native.Nat.{_≤_};
+ghost use lib.ListN.{length};
+ghost use Rattle.text.specs.Verdict.{faultNumber, SmallRuling, Ruled};
+
+pub enum Ruling {
+    Same,
+    Factor(usize),
+    Differ,
+    No(Fault, usize),
+}
+
+// Document 01's number of a fault.
+pub fn number_of(f: Fault) -> usize
+    ensures { λ n. ⌜ (n ≡ faultNumber f) × (n ≤ 14) ⌝ }
+{
+    match f {
+        Fault::Header => 10,
+        Fault::Line => 11,
+        Fault::Qubit => 12,
+        Fault::Equal => 13,
+        Fault::Parting => 14,
+        Fault::Full => 8,
+    }
+}
+
+fn refuse(out: &mut [u8], fault: Fault, line: usize) -> usize
+    requires { ⌜ 32 ≤ length (now out) ⌝ }
+    ensures { λ r. ⌜ Ruled (now (out .entry)) (Ruling.No fault line) (now (out .exit)) r ⌝ }
+{
+    let n = number_of(fault);
+    let a = print::labelled(out, 0, b"no\t", n);
+    let b = print::labelled(out, a, b"\t", line);
+    print::bytes(out, b, b"\n")
+}
+
+// Writes a verdict's answer at the start of the output, and answers how many bytes it has.
+pub fn write(out: &mut [u8], ruling: Ruling) -> usize
+    requires { ⌜ (32 ≤ length (now out)) × SmallRuling ruling ⌝ }
+    ensures { λ r. ⌜ Ruled (now (out .entry)) ruling (now (out .exit)) r ⌝ }
+{
+    match ruling {
+        Ruling::Same => answer::write(out, 0, Answer::Same),
+        Ruling::Factor(f) => answer::write(out, 0, Answer::Factor(f)),
+        Ruling::Differ => answer::write(out, 0, Answer::Differ),
+        Ruling::No(f, line) => refuse(out, f, line),
+    }
+}
