@@ -9,9 +9,9 @@ ghost use Rattle.diagram.specs.Engine.{Sound};
 ghost use Rattle.fill.specs.Fill.{Leaf, Pairs, Standing};
 
 // The store has room for one node less than the pattern has.
-const BYTES: usize = 65520;
+const BYTES: usize = 1048560;
 
-const SIDE: u64 = 64;
+const SIDE: u64 = 256;
 
 // The node at index 23 with the values 1 and w.
 fn leaf(store: &mut [u8], s: State, w: u64) -> Made
@@ -88,8 +88,13 @@ fn run(store: &mut [u8], cache: &mut [u64]) {
     print(u);
 }
 
+// The array as a slice; the length is known here, and nothing has to count its elements.
+fn lend(store: &mut [u8; BYTES]) {
+    let mut cache = [0u64; 4];
+    run(store, &mut cache);
+}
+
 fn main() {
     let mut store = [0u8; BYTES];
-    let mut cache = [0u64; 4];
-    run(&mut store, &mut cache);
+    lend(&mut store);
 }

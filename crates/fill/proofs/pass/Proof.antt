@@ -7,10 +7,10 @@ use Rattle.fill.proofs.pass.Statement.{statement}
 use Rattle.fill.proofs.pass.Tie as tie
 
 abbrev Inv-loop : tie.InvT-loop
-Inv-loop store₀ cache₀ t₀ a₀ store cache t a = Standing cache store t × (a ≤ 64) × (length store ≡ length store₀) × (length cache ≡ length cache₀)
+Inv-loop store₀ cache₀ t₀ a₀ store cache t a = Standing cache store t × (a ≤ 256) × (length store ≡ length store₀) × (length cache ≡ length cache₀)
 
 abbrev μ-loop : tie.MeasureT-loop
-μ-loop store₀ cache₀ t₀ a₀ store cache t a = 64 - a
+μ-loop store₀ cache₀ t₀ a₀ store cache t a = 256 - a
 
 loop-holds : tie.Need-loop-holds Inv-loop μ-loop
 loop-holds c = search needs

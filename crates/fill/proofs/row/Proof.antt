@@ -7,10 +7,10 @@ use Rattle.fill.proofs.row.Statement.{statement}
 use Rattle.fill.proofs.row.Tie as tie
 
 abbrev Inv-loop : tie.InvT-loop
-Inv-loop store₀ cache₀ a t₀ b₀ store cache t b = Standing cache store t × (b ≤ 64) × (length store ≡ length store₀) × (length cache ≡ length cache₀)
+Inv-loop store₀ cache₀ a t₀ b₀ store cache t b = Standing cache store t × (b ≤ 256) × (length store ≡ length store₀) × (length cache ≡ length cache₀)
 
 abbrev μ-loop : tie.MeasureT-loop
-μ-loop store₀ cache₀ a t₀ b₀ store cache t b = 64 - b
+μ-loop store₀ cache₀ a t₀ b₀ store cache t b = 256 - b
 
 loop-holds : tie.Need-loop-holds Inv-loop μ-loop
 loop-holds c = search needs
