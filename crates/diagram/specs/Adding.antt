@@ -24,8 +24,7 @@ use Rattle.diagram.specs.Engine.{nodesOf, setOf, tensorOf, nodes-length,
 use Rattle.diagram.specs.Edge.{Added, added-valid, added-tensor, multiple-one, multiple-two, from-level}
 use Rattle.diagram.specs.Steps.{join-grows}
 use Rattle.diagram.specs.Cache.{Narrow, remembered, asked}
-pub use Rattle.diagram.specs.Operation.{Ready, Worked, Failed, Works, works-done, works-over}
-use Rattle.diagram.specs.Operation.{lowestOf, Multiplied, works-stays, works-does, works-scaled}
+use Rattle.diagram.specs.Operation.{Ready, Worked, Failed, Works, lowestOf, Multiplied, works-stays, works-does, works-scaled}
 use Rattle.diagram.specs.Cofactor.{Cofactor}
 use Rattle.diagram.specs.Join.{Joinable}
 use Rattle.diagram.specs.Halving.{high, Halfway, rank, rank-same, inside, tops, Parts}

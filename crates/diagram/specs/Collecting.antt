@@ -16,15 +16,15 @@ use Rattle.diagram.specs.Meaning.{tensorAt, tensors}
 use Rattle.diagram.specs.Canonical.{Placed, Canonical}
 use Rattle.diagram.specs.Insert as insert
 use Rattle.diagram.specs.Engine.{nodesOf, setOf, nodes-length, node-at, Sound}
-use Rattle.diagram.specs.Cache.{Past, Remembers}
+use Rattle.diagram.specs.Cache.{Past, Stepped}
 use Rattle.diagram.specs.Restore.{Left, Restored}
 use Rattle.diagram.specs.Compact.{rank, rank-none, rank-le, survivors, Closed, Compacted, forward, forward-zero, forward-node}
 use Rattle.diagram.specs.Mark.{Down}
 use Rattle.diagram.specs.Roots.{marksOf, Reaches}
 use Rattle.diagram.specs.Surviving.{Survived, survived, rank-mono}
 use Rattle.diagram.specs.Reaching.{AllMarked, tensorsOf, filtered-all, kept-marked, kept-closed, kept-roots, mark-kept}
-use Rattle.diagram.specs.Registers.{holdsAll, filled-edges, edgesOf, Registered}
-use Rattle.diagram.specs.Renumber.{renumberAll, renumber-ext, renumber-holds, renumber-registered}
+use Rattle.diagram.specs.Registers.{holdsAll, weightsOf, filled-edges, edgesOf, Registered}
+use Rattle.diagram.specs.Renumber.{renumberAll, renumber-ext, renumber-weights, renumber-holds, renumber-registered}
 use Rattle.diagram.specs.declared.make.State.{State}
 use Rattle.diagram.specs.declared.registers.Register.{Register}
 
@@ -119,12 +119,13 @@ pub record Collectable (c s : List ℕ) (st : State) (rs : List Register) : Type
   pub registers : Registered (st .count) rs
 
 -- What it leaves. "collect: the set keeps exactly the normal multiples of the nonconstant tensors got from filled registers by fixing indices 0 to
--- j-1, for j from 0 to 23." The registers hold the tensors that they held. "A remembered result made before a collection .. is never used": what is
--- remembered afterwards is right for the nodes as they are then.
+-- j-1, for j from 0 to 23." The registers hold the tensors that they held, with the weights that they had. "A remembered result made before a
+-- collection .. is never used": nothing is remembered afterwards, no entry is of the epoch.
 pub record Collected (c' s s' : List ℕ) (st st' : State) (rs rs' : List Register) : Type 0 where
   pub held : Sound s' st'
-  pub cache : Remembers c' s' st'
+  pub forgotten : Stepped c' (st' .epoch)
   pub registers : Registered (st' .count) rs'
+  pub weights : weightsOf rs' ≡ weightsOf rs
   pub same : holdsAll (setOf s' st') rs' ≡ holdsAll (setOf s st) rs
   pub set : setOf s' st' ≡ collect (filled (holdsAll (setOf s st) rs)) (setOf s st)
 
@@ -171,9 +172,10 @@ collected {s = s} {s₁} {s₂} {st} {st'} {rs} {rs'} k b g w r =
     let kept = ap (tensors indices) (r .kept) in
     record {
       held = r .held;
-      cache = r .cache;
+      forgotten = r .forgotten;
       registers = subst (λ m. Registered m rs') (count-of s₁ s₂ (record { count = k; buckets = b; epoch = st .epoch }) st' (r .kept))
           (swept-registered indices (st .count) rs rs' s s₁ k n (g .registers) w);
+      weights = ap weightsOf (w .registers) ∙ renumber-weights (rank (w .marks)) rs;
       same = ap (λ ts. holdsAll ts rs') kept ∙ swept-holds indices (st .count) rs rs' s s₁ k n (g .registers) w;
       set = kept ∙ swept-set indices (st .count) rs rs' s s₁ k n (g .registers) w;
     }

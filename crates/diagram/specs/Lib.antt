@@ -35,10 +35,9 @@ pub mod Collect
 pub mod Answered
 pub mod ValueLaws
 pub mod GateLaws
--- More indices, and the marked cases
+-- More indices
 pub mod Grow
 pub mod GrowSteps
-pub mod Marked
 -- The store: records, unique table, what nodes mean
 pub mod Fields
 pub mod Node
@@ -91,3 +90,5 @@ pub mod Surviving
 pub mod Reaching
 pub mod Renumber
 pub mod Collecting
+-- What stands between two calls
+pub mod Standing

@@ -42,6 +42,11 @@ unfoldable pub holdsAll : {d : ℕ} → Set d → List Register → List (Option
 holdsAll ts [] = []
 holdsAll ts (r ∷ rs) = holds ts r ∷ holdsAll ts rs
 
+-- the registers' weights, in order; an empty one's as it is stored
+unfoldable pub weightsOf : List Register → List ℕ
+weightsOf [] = []
+weightsOf (r ∷ rs) = r .edge .weight ∷ weightsOf rs
+
 -- the edges of the filled registers
 unfoldable pub edgesOf : List Register → List Edge
 edgesOf [] = []

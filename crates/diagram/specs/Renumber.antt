@@ -13,12 +13,29 @@ use Rattle.diagram.specs.Tensor.{scale}
 use Rattle.diagram.specs.Tally.{Set}
 use Rattle.diagram.specs.Meaning.{tensorAt, edgeIn}
 use Rattle.diagram.specs.Reaching.{AllMarked, AllValid}
-use Rattle.diagram.specs.Registers.{emptyRegister, holds, holdsAll, edgesOf, Registered}
+use Rattle.diagram.specs.Registers.{emptyRegister, filledWith, holds, holdsAll, weightsOf, edgesOf, Registered}
 use Rattle.diagram.specs.declared.registers.Register.{Register}
 
 -- a filled register with its node renumbered
 unfoldable pub renumber : (ℕ → ℕ) → Register → Register
 renumber g r = cond (r .filled) (record { filled = true; edge = record { weight = r .edge .weight; node = g (r .edge .node) } }) r
+
+pub renumber-filled : (g : ℕ → ℕ) {n : ℕ} (r : Register) → r .filled ≡ true → n ≡ g (r .edge .node)
+    → filledWith (record { weight = r .edge .weight; node = n }) ≡ renumber g r
+unfolding renumber
+renumber-filled g r f e = rw (f, e)
+
+pub renumber-empty : (g : ℕ → ℕ) (r : Register) → r .filled ≡ false → r ≡ renumber g r
+unfolding renumber
+renumber-empty g r f = rw f
+
+renumber-weight : (g : ℕ → ℕ) (r : Register) → renumber g r .edge .weight ≡ r .edge .weight
+unfolding renumber
+renumber-weight g r = go (r .filled)
+  where
+    go : (b : Bool) → cond b (filledWith (record { weight = r .edge .weight; node = g (r .edge .node) })) r .edge .weight ≡ r .edge .weight
+    go true = refl
+    go false = refl
 
 unfoldable pub renumberAll : (ℕ → ℕ) → List Register → List Register
 renumberAll g [] = []
@@ -68,6 +85,12 @@ renumber-end g zero [] p = refl
 renumber-end g zero (r ∷ rs) p = absurd (omega arith)
 renumber-end g (suc i) [] p = refl
 renumber-end g (suc i) (r ∷ rs) p = ap (λ l. renumber g r ∷ l) (renumber-end g i rs (omega arith))
+
+-- no weight changes
+pub renumber-weights : (g : ℕ → ℕ) (rs : List Register) → weightsOf (renumberAll g rs) ≡ weightsOf rs
+unfolding renumberAll weightsOf
+renumber-weights g [] = refl
+renumber-weights g (r ∷ rs) = ap₂ (λ w l. w ∷ l) (renumber-weight g r) (renumber-weights g rs)
 
 all-length : (g : ℕ → ℕ) (rs : List Register) → length (renumberAll g rs) ≡ length rs
 unfolding renumberAll

@@ -11,16 +11,16 @@ use Rattle.diagram.specs.Insert as insert
 use Rattle.diagram.specs.Make.{Stored, stored-of}
 use Rattle.diagram.specs.Canonical.{Canonical, canonical-none}
 use Rattle.diagram.specs.Engine.{nodesOf, Sound}
-use Rattle.diagram.specs.Cache.{Past, Blank, Stepped, blank-stepped, Remembers, remembers-nothing}
-use Rattle.diagram.specs.Adding.{Failed}
+use Rattle.diagram.specs.Cache.{Past, Blank, Stepped, blank-stepped}
+use Rattle.diagram.specs.Operation.{Failed}
 use Rattle.diagram.specs.Tensor.{indices}
 use Rattle.diagram.specs.declared.make.State.{State}
 
--- "A session starts with no nodes", and nothing is remembered
+-- "A session starts with no nodes", and nothing is remembered: no entry is of the epoch
 pub record Fresh (c s s' : List ℕ) (st : State) : Type 0 where
   pub long : length s' ≡ length s
   pub held : Sound s' st
-  pub cache : Remembers c s' st
+  pub forgotten : Stepped c (st .epoch)
   pub none : nodesOf s' st ≡ []
 
 -- what a refused call leaves: the nodes of the state before it, perhaps more nodes and a table of more
@@ -36,7 +36,7 @@ pub record Restored (c' s s' : List ℕ) (st st' : State) : Type 0 where
   pub long : length s' ≡ length s
   pub count : st' .count ≡ st .count
   pub held : Sound s' st'
-  pub cache : Remembers c' s' st'
+  pub forgotten : Stepped c' (st' .epoch)
   pub kept : nodesOf s' st' ≡ nodesOf s st
 
 -- the old nodes are where they were
@@ -84,18 +84,18 @@ started {s' = s'} b a =
     record {
       long = anew-long st a;
       held = record { stored = anew-stored st a (omega arith) (omega arith); nodes = rw (listed-none (nodeAt s')) (canonical-none indices) };
-      cache = remembers-nothing s' st (blank-stepped b);
+      forgotten = blank-stepped b;
       none = listed-none (nodeAt s');
     }
 
 pub restored : {c c' s s' : List ℕ} {st : State} {epoch : ℕ} → Left c s st → Stepped c' epoch → Anew s s' (st .count) (st .buckets)
     → Restored c' s s' st (record { count = st .count; buckets = st .buckets; epoch = epoch })
-restored {s' = s'} {st = st} {epoch = epoch} l b a =
+restored {st = st} {epoch = epoch} l b a =
     let st' : State = record { count = st .count; buckets = st .buckets; epoch = epoch } in
     record {
       long = anew-long st' a;
       count = refl;
       held = record { stored = anew-stored st' a (l .room) (l .numbered); nodes = rw (anew-nodes st' a) (unfold nodesOf in l .nodes) };
-      cache = remembers-nothing s' st' b;
+      forgotten = b;
       kept = unfold nodesOf in anew-nodes st' a;
     }

@@ -50,30 +50,21 @@ pub fn contract(store: &mut [u8], cache: &mut [u64], s: State, a: Edge, b: Edge,
     let k = operation::lowest(store, s, a, b);
     let weight = factored(v, w, m, k);
     let rest = mask::from(m, k);
-    let left = a.node;
-    let right = b.node;
+    let x = a.node;
+    let y = b.node;
     // a constant, and no index left in S: a multiple of the other, nothing is put in
     if rest == 0 {
-        if right == 0 {
-            let e = Edge { weight, node: left };
+        if y == 0 {
+            let e = Edge { weight, node: x };
             return Made::Edge(e, s);
         }
-        if left == 0 {
-            let e = Edge {
-                weight,
-                node: right,
-            };
+        if x == 0 {
+            let e = Edge { weight, node: y };
             return Made::Edge(e, s);
         }
     }
-    let bare = Edge {
-        weight: 1,
-        node: left,
-    };
-    let other = Edge {
-        weight: 1,
-        node: right,
-    };
+    let bare = Edge { weight: 1, node: x };
+    let other = Edge { weight: 1, node: y };
     let made = contract_cached(store, cache, s, bare, other, rest);
     operation::times(weight, made)
 }

@@ -38,7 +38,7 @@ pub fn matrix(g: Gate) -> [[u64; 2]; 2]
 }
 
 // The gate's qubit, or its first.
-pub(crate) fn first(g: Gate) -> usize
+pub fn first(g: Gate) -> usize
     ensures { λ r. ⌜ r ≡ firstOf g ⌝ }
 {
     match g {
@@ -57,7 +57,7 @@ pub(crate) fn first(g: Gate) -> usize
 }
 
 // The gate's qubit again, or its second.
-pub(crate) fn second(g: Gate) -> usize
+pub fn second(g: Gate) -> usize
     ensures { λ r. ⌜ r ≡ secondOf g ⌝ }
 {
     match g {

@@ -1,12 +1,12 @@
 // A tensor decision diagram.
 pub mod build;
-pub mod cache;
+mod cache;
 pub mod collect;
-pub mod compact;
+mod compact;
 pub mod compare;
 pub mod contract;
 pub mod depends;
-pub mod edge;
+mod edge;
 mod entry;
 mod fields;
 pub mod gate;
@@ -14,8 +14,8 @@ mod insert;
 pub mod join;
 pub mod lower;
 pub mod make;
-pub mod mark;
-pub mod mask;
+mod mark;
+mod mask;
 pub mod node;
 mod normalise;
 mod operation;

@@ -20,7 +20,7 @@ ghost use Rattle.diagram.specs.Meaning.{Valid};
 ghost use Rattle.diagram.specs.Engine.{tensorOf};
 ghost use Rattle.diagram.specs.Registers.{Registered};
 ghost use Rattle.diagram.specs.Restore.{Left};
-ghost use Rattle.replay.specs.Replay.{Standing};
+ghost use Rattle.diagram.specs.Standing.{Standing};
 
 pub struct Run {
     pub state: State,

@@ -8,7 +8,7 @@ use diagram::registers;
 use diagram::restore;
 ghost use Prim.Native.Nat.{_<_};
 ghost use Rattle.diagram.specs.Entry.{Allowed};
-ghost use Rattle.replay.specs.Replay.{Standing};
+ghost use Rattle.diagram.specs.Standing.{Standing};
 
 // The gate, contracted over the indices of m; register 1 has held it.
 fn contracted(store: &mut [u8], cache: &mut [u64], run: Run, g: Gate, m: u64) -> Run

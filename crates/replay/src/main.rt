@@ -20,7 +20,8 @@ ghost use mathlib.Core.Path.{_≡_};
 ghost use Rattle.diagram.specs.Engine.{Sound};
 ghost use Rattle.diagram.specs.Entry.{Allowed};
 ghost use Rattle.diagram.specs.Registers.{Registered};
-ghost use Rattle.replay.specs.Replay.{Standing, cleared};
+ghost use Rattle.diagram.specs.Standing.{Standing};
+ghost use Rattle.replay.specs.Replay.{cleared};
 
 // The index that is added over: the middle of qubit 0.
 const MIDDLE: u64 = 2;

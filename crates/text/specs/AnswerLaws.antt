@@ -1,5 +1,5 @@
 -- An answer is short.
-use Prim.Native.Nat.{ℕ, _-_, _≤_}
+use Prim.Native.Nat.{ℕ, _≤_}
 use native.Mathlib.Omega.{arith}
 use lib.ListN.{length}
 use Rattle.text.specs.Text.{Bytes, bytes}
@@ -30,5 +30,5 @@ printed-short Same h = omega arith
 printed-short (Factor f) h = ended-short (bytes "factor\t") f (omega arith) h
 printed-short Differ h = omega arith
 
-pub printed-wrote : {l : Bytes} {at : ℕ} (a : Answer) {l' : Bytes} {e : ℕ} → Small a → Wrote l at (printed a) l' e → Printed l at a l' (e - at)
-printed-wrote a s w = record { exact = w .exact; count = omega (arith, w .after); short = omega (arith, w .after, printed-short a s) }
+pub printed-wrote : {l : Bytes} {at : ℕ} (a : Answer) {l' : Bytes} {e : ℕ} → Small a → Wrote l at (printed a) l' e → Printed l at a l' e
+printed-wrote a s w = record { exact = w .exact; after = w .after; short = printed-short a s }

@@ -49,8 +49,8 @@ Small Differ = Unit
 unfoldable pub written : Bytes → ℕ → Bytes → Bytes
 written l at text = take at l ++ text ++ drop (at + length text) l
 
--- an answer is written at a place of l, and r is how many bytes it has: at most 16
+-- an answer is written at a place of l, and r is the place after it: at most 16 bytes
 pub record Printed (l : Bytes) (at : ℕ) (a : Answer) (l' : Bytes) (r : ℕ) : Type 0 where
   pub exact : l' ≡ written l at (printed a)
-  pub count : r ≡ length (printed a)
-  pub short : r ≤ 16
+  pub after : r ≡ at + length (printed a)
+  pub short : length (printed a) ≤ 16

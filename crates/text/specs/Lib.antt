@@ -6,6 +6,10 @@ pub mod Answers
 pub mod Verdict
 pub mod Session
 pub mod VerdictRun
+-- demand 3, sentence by sentence; what a list of gates means, and what a verdict says (demand 2)
+pub mod Agrees
+pub mod Product
+pub mod VerdictMeaning
 -- what the code's proofs use of them
 pub mod Split
 pub mod Same
@@ -13,6 +17,8 @@ pub mod Number
 pub mod Args
 pub mod Checks
 pub mod Line
+pub mod Squeeze
+pub mod SqueezeLaws
 pub mod Ranges
 pub mod Print
 pub mod AnswerLaws
@@ -20,7 +26,20 @@ pub mod VerdictLaws
 pub mod Check
 pub mod Lists
 pub mod RulingLaws
+-- laws of the tally, of a verdict's session and of what it means
 pub mod TallyLaws
 pub mod VerdictRunLaws
 pub mod VerdictLists
+pub mod ProductLaws
+pub mod VerdictMeaningLaws
 pub mod GrowSession
+-- the engine between two lines, its calls, and the run
+pub mod Engine
+pub mod Respond
+pub mod AgreesLaws
+pub mod Progress
+-- the verdict's session, call by call and line by line
+pub mod Qubits
+pub mod Perform
+pub mod Stage
+pub mod Judge

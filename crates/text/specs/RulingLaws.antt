@@ -53,4 +53,4 @@ module _ (l : Bytes) (n line : ℕ) (room : 32 ≤ length l) (small : n ≤ 14) 
 
 -- an answer that fits 16 bytes fits 32
 pub ruled-answer : {l l' : Bytes} {r : ℕ} (a : Answer) (ruling : Ruling) → printedRuling ruling ≡ printed a → Printed l 0 a l' r → Ruled l ruling l' r
-ruled-answer a ruling e p = record { exact = rw e (p .exact); count = rw e (p .count); short = omega (arith, p .short) }
+ruled-answer a ruling e p = record { exact = rw e (p .exact); count = rw e (omega (arith, p .after)); short = omega (arith, p .after, p .short) }

@@ -112,6 +112,11 @@ upto-most b (x ∷ s) = go (eqb x b) (upto-most b s)
     go true h = omega arith
     go false h = omega arith
 
+-- every part has an end
+pub ends-from : (b : ℕ) (s : Bytes) (a : ℕ) → a ≤ length s → Ends b s a (endFrom b s a)
+unfolding endFrom
+ends-from b s a h = record { place = refl; from = omega arith; within = omega (arith, upto-most b (drop a s), length-drop a s) }
+
 -- the part that begins at a, where it ends before the text's end
 parts-at : {b : ℕ} {s : Bytes} {a e : ℕ} (none : List Bytes) → Ends b s a e → e < length s
     → parts b none (drop a s) ≡ part s a e ∷ parts b none (drop (e + 1) s)

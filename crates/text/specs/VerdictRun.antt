@@ -95,7 +95,7 @@ held r (ended t) = getD (t .registers) r none
 unfoldable pub listTensor : (d n : ℕ) → List Gate → Option (Tensor d)
 listTensor d n gs = held 0 (perform unlimited (listCalls 0 n 1 gs) start)
 
--- "then `cmp 0 1`": what its answer says
+-- "then `cmp 0 1`": what its answer says. Its last three cases do not come: `cmp` is asked of filled registers (verdict-judged in VerdictLists).
 abbrev pub rulingOf : Answer → Ruling
 rulingOf answers.Same = Same
 rulingOf (answers.Factor f) = Factor f

@@ -15,6 +15,12 @@ pub enum Ruling {
     No(Fault, usize),
 }
 
+// "The result is code and bytes written"
+pub struct Verdict {
+    pub code: usize,
+    pub bytes: usize,
+}
+
 // Document 01's number of a fault.
 pub fn number_of(f: Fault) -> usize
     ensures { λ n. ⌜ (n ≡ faultNumber f) × (n ≤ 14) ⌝ }

@@ -1,3 +1,4 @@
+use Rattle.diagram.specs.Cache.{remembers-nothing}
 use Rattle.fill.specs.Fill.{standing-more, standing-left}
 use borrow.Author.Needs.{needs}
 use Rattle.fill.proofs.one.Statement.{statement}
@@ -22,7 +23,7 @@ same-length-2 : tie.Need-same-length-2
 same-length-2 c = search needs
 
 returns : tie.Need-returns
-returns c = search needs
+returns c = search (needs, remembers-nothing)
 
 same-length-3 : tie.Need-same-length-3
 same-length-3 c = search needs

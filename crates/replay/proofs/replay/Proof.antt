@@ -1,4 +1,4 @@
-use Rattle.replay.specs.Replay.{standing-fresh}
+use Rattle.diagram.specs.Standing.{standing-fresh}
 use borrow.Author.Needs.{needs}
 use Rattle.replay.proofs.replay.Statement.{statement}
 use Rattle.replay.proofs.replay.Tie as tie

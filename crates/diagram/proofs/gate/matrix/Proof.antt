@@ -6,91 +6,69 @@ use Rattle.diagram.proofs.gate.matrix.Tie as tie
 use Rattle.diagram.proofs.gate.matrix.Reads as reads
 use Rattle.diagram.proofs.gate.matrix.Lts as lts
 
--- src/gate.rt:25:24
 enum-told : tie.Need-enum-told
 enum-told c = search needs
 
--- src/gate.rt:26:24
 enum-told-2 : tie.Need-enum-told-2
 enum-told-2 c = search needs
 
--- src/gate.rt:27:24
 enum-told-3 : tie.Need-enum-told-3
 enum-told-3 c = search needs
 
--- src/gate.rt:28:24
 enum-told-4 : tie.Need-enum-told-4
 enum-told-4 c = search needs
 
--- src/gate.rt:29:24
 enum-told-5 : tie.Need-enum-told-5
 enum-told-5 c = search needs
 
--- src/gate.rt:30:25
 enum-told-6 : tie.Need-enum-told-6
 enum-told-6 c = search needs
 
--- src/gate.rt:31:24
 enum-told-7 : tie.Need-enum-told-7
 enum-told-7 c = search needs
 
--- src/gate.rt:32:25
 enum-told-8 : tie.Need-enum-told-8
 enum-told-8 c = search needs
 
--- src/gate.rt:33:28
 enum-told-9 : tie.Need-enum-told-9
 enum-told-9 c = search needs
 
--- src/gate.rt:34:28
 enum-told-10 : tie.Need-enum-told-10
 enum-told-10 c = search needs
 
--- src/gate.rt:35:28
 enum-told-11 : tie.Need-enum-told-11
 enum-told-11 c = search needs
 
--- src/gate.rt:21:1
 returns : tie.Need-returns
 returns c = search (needs, as-matrix)
 
--- src/gate.rt:21:1
 returns-2 : tie.Need-returns-2
 returns-2 c = search (needs, as-matrix)
 
--- src/gate.rt:21:1
 returns-3 : tie.Need-returns-3
 returns-3 c = search (needs, as-matrix)
 
--- src/gate.rt:21:1
 returns-4 : tie.Need-returns-4
 returns-4 c = search (needs, as-matrix)
 
--- src/gate.rt:21:1
 returns-5 : tie.Need-returns-5
 returns-5 c = search (needs, as-matrix)
 
--- src/gate.rt:21:1
 returns-6 : tie.Need-returns-6
 returns-6 c = search (needs, as-matrix)
 
--- src/gate.rt:21:1
 returns-7 : tie.Need-returns-7
 returns-7 c = search (needs, as-matrix)
 
--- src/gate.rt:21:1
 returns-8 : tie.Need-returns-8
 returns-8 c = search (needs, as-matrix)
 
--- src/gate.rt:21:1
 returns-9 : tie.Need-returns-9
 returns-9 c = search (needs, as-matrix)
 
--- src/gate.rt:21:1
 returns-10 : tie.Need-returns-10
 returns-10 c = search (needs, as-matrix)
 
--- src/gate.rt:21:1
 returns-11 : tie.Need-returns-11
 returns-11 c = search (needs, as-matrix)
 

@@ -1,4 +1,4 @@
-use Rattle.replay.specs.Replay.{read-valid, standing-depended, free-alike}
+use Rattle.diagram.specs.Standing.{read-valid, standing-depended, free-alike}
 use borrow.Author.Needs.{needs}
 use Rattle.replay.proofs.calls.low.Statement.{statement}
 use Rattle.replay.proofs.calls.low.Tie as tie

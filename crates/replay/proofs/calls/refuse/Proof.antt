@@ -1,4 +1,4 @@
-use Rattle.replay.specs.Replay.{standing-restored}
+use Rattle.diagram.specs.Standing.{standing-restored}
 use borrow.Author.Needs.{needs}
 use Rattle.replay.proofs.calls.refuse.Statement.{statement}
 use Rattle.replay.proofs.calls.refuse.Tie as tie

@@ -1,4 +1,4 @@
-use Rattle.replay.specs.Replay.{works-left, standing-works}
+use Rattle.diagram.specs.Standing.{works-left, standing-works}
 use borrow.Author.Needs.{needs}
 use Rattle.replay.proofs.calls.rename.Statement.{statement}
 use Rattle.replay.proofs.calls.rename.Tie as tie

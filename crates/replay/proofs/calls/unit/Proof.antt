@@ -1,4 +1,4 @@
-use Rattle.replay.specs.Replay.{does-left, standing-does}
+use Rattle.diagram.specs.Standing.{does-left, standing-does}
 use borrow.Author.Needs.{needs}
 use Rattle.replay.proofs.calls.unit.Statement.{statement}
 use Rattle.replay.proofs.calls.unit.Tie as tie

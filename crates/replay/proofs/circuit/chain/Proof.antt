@@ -2,7 +2,7 @@ use Prim.Native.Nat.{_-_, _≤_}
 use mathlib.Core.Path.{_≡_, refl, _∙_}
 use native.Mathlib.Omega.{arith}
 use lib.ListN.{length}
-use Rattle.replay.specs.Replay.{Standing}
+use Rattle.diagram.specs.Standing.{Standing}
 use Rattle.replay.proofs.circuit.chain.Statement.{statement}
 use Rattle.replay.proofs.circuit.chain.Tie as tie
 

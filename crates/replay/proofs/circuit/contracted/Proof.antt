@@ -1,4 +1,4 @@
-use Rattle.replay.specs.Replay.{standing-clear}
+use Rattle.diagram.specs.Standing.{standing-clear}
 use borrow.Author.Needs.{needs}
 use Rattle.replay.proofs.circuit.contracted.Statement.{statement}
 use Rattle.replay.proofs.circuit.contracted.Tie as tie
@@ -8,27 +8,21 @@ use Rattle.diagram.proofs.registers.clear.Reads as clear-reads
 use Rattle.replay.proofs.calls.cont.Reads as cont-reads
 use Rattle.replay.proofs.calls.gate.Reads as gate-reads
 
--- src/circuit.rt:18:9
 gate-requires : tie.Need-gate-requires
 gate-requires c κs = search needs
 
--- src/circuit.rt:19:9
 cont-requires : tie.Need-cont-requires
 cont-requires c κs = search needs
 
--- src/circuit.rt:21:9
 clear-requires : tie.Need-clear-requires
 clear-requires c κs = search needs
 
--- src/circuit.rt:14:1
 same-length : tie.Need-same-length
 same-length c = search needs
 
--- src/circuit.rt:14:1
 same-length-2 : tie.Need-same-length-2
 same-length-2 c = search needs
 
--- src/circuit.rt:14:1
 returns : tie.Need-returns
 returns c = search (needs, standing-clear)
 

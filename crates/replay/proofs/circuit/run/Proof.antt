@@ -1,4 +1,4 @@
-use Rattle.replay.specs.Replay.{standing-fresh}
+use Rattle.diagram.specs.Standing.{standing-fresh}
 use borrow.Author.Needs.{needs}
 use Rattle.replay.proofs.circuit.run.Statement.{statement}
 use Rattle.replay.proofs.circuit.run.Tie as tie
@@ -8,27 +8,21 @@ use Rattle.diagram.proofs.registers.empty.Reads as empty-reads
 use Rattle.diagram.proofs.restore.start.Reads as start-reads
 use Rattle.replay.proofs.circuit.from_unit.Reads as from-unit-reads
 
--- src/circuit.rt:170:9
 start-requires : tie.Need-start-requires
 start-requires c κs = search needs
 
--- src/circuit.rt:171:9
 empty-requires : tie.Need-empty-requires
 empty-requires c κs = search needs
 
--- src/circuit.rt:172:5
 from-unit-requires : tie.Need-from-unit-requires
 from-unit-requires c κs = search (needs, standing-fresh)
 
--- src/circuit.rt:169:1
 same-length : tie.Need-same-length
 same-length c = search needs
 
--- src/circuit.rt:169:1
 same-length-2 : tie.Need-same-length-2
 same-length-2 c = search needs
 
--- src/circuit.rt:169:1
 returns : tie.Need-returns
 returns c = search needs
 

@@ -1,4 +1,4 @@
-use Rattle.replay.specs.Replay.{read-valid}
+use Rattle.diagram.specs.Standing.{read-valid}
 use borrow.Author.Needs.{needs}
 use Rattle.replay.proofs.show.values.Statement.{statement}
 use Rattle.replay.proofs.show.values.Tie as tie

@@ -1,0 +1,20 @@
+use borrow.Author.Needs.{needs}
+use mathlib.Core.Path.{_≡_}
+use Prim.Native.Nat.{_-_, _≤_}
+use lib.ListN.{length}
+use Rattle.text.specs.Squeeze.{Fits}
+use Rattle.lines.proofs.feed.feed.Statement.{statement}
+use Rattle.lines.proofs.feed.feed.Tie as tie
+
+abbrev Inv-loop : tie.InvT-loop
+Inv-loop line₀ part h₀ i₀ line h i = (i ≤ length part) × ((length line ≡ length line₀) × Fits h)
+
+abbrev μ-loop : tie.MeasureT-loop
+μ-loop line₀ part h₀ i₀ line h i = length part - i
+
+pub feed-spec : {M : Type 1} → statement M
+feed-spec =
+    tie.close
+    (tie.spec
+    Inv-loop μ-loop (λ c. search needs) (λ c. search needs) (λ c κs. search needs) (λ c. search needs) (λ c. search needs)
+    (λ c. search needs) (λ c. search needs) (λ c. search needs))

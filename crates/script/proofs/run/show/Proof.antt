@@ -1,0 +1,14 @@
+use borrow.Author.Needs.{needs}
+use Rattle.text.specs.AgreesLaws.{printed-within}
+use Rattle.script.proofs.run.show.Statement.{statement}
+use Rattle.script.proofs.run.show.Tie as tie
+
+part-word-end : tie.Need-part-word-end
+part-word-end c = search (needs, printed-within)
+
+pub show-spec : {M : Type 1} → statement M
+show-spec =
+    tie.close
+    (tie.spec
+    (λ c κs. search needs) (λ c. search needs) (λ c. search needs) part-word-end (λ c κs. search needs) (λ c κs. search needs)
+    (λ c. search needs) (λ c. search needs) (λ c. search needs) (λ c. search needs))

@@ -1,0 +1,46 @@
+// The answer to one line.
+use libc::STDOUT_FILENO;
+use text::engine::Engine;
+use text::progress;
+use text::progress::Progress;
+use text::squeeze::Squeeze;
+ghost use Prim.Native.Nat.{_≤_};
+ghost use lib.ListN.{length};
+ghost use Rattle.session.specs.Answer.{Ready, Answered, Replied};
+
+// Puts the answer at the front of the output. The LF makes an empty line a line.
+fn reply(
+    line: &mut [u8],
+    store: &mut [u8],
+    cache: &mut [u64],
+    out: &mut [u8],
+    squeeze: Squeeze,
+    engine: Engine,
+) -> Progress
+    requires { ⌜ Ready (now line) (now cache) (now store) squeeze engine × (16 ≤ length (now out)) ⌝ }
+    ensures { λ r. ⌜ Replied (now (line .entry)) squeeze engine (now (store .entry)) (now (cache .exit)) (now (store .exit)) (now (out .exit)) r ⌝ }
+{
+    let n = squeeze.length;
+    line[n] = b'\n';
+    let e = n + 1;
+    progress::resume(&line[..e], store, cache, out, 1, engine)
+}
+
+// Writes the answer, which 16 bytes hold, and answers what the line leaves.
+pub fn answer(
+    line: &mut [u8],
+    store: &mut [u8],
+    cache: &mut [u64],
+    squeeze: Squeeze,
+    engine: Engine,
+) -> Engine
+    requires { ⌜ Ready (now line) (now cache) (now store) squeeze engine ⌝ }
+    ensures { λ r. ⌜ Answered (now (line .entry)) squeeze engine (now (store .entry)) (now (cache .exit)) (now (store .exit)) r ⌝ }
+{
+    let mut out = [0u8; 16];
+    let p = reply(line, store, cache, &mut out, squeeze, engine);
+    let a = 0;
+    let n = p.bytes;
+    io::write_all(STDOUT_FILENO, &out[a..n]);
+    p.engine
+}

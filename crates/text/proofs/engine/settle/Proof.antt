@@ -1,0 +1,19 @@
+use borrow.Author.Needs.{needs}
+use Rattle.text.specs.Engine.{settles-full, settles-put, leaves-full}
+use Rattle.text.proofs.engine.settle.Statement.{statement}
+use Rattle.text.proofs.engine.settle.Tie as tie
+
+roll-back-requires : tie.Need-roll-back-requires
+roll-back-requires c κs = search (needs, leaves-full)
+
+returns : tie.Need-returns
+returns c = search (needs, settles-full)
+
+returns-2 : tie.Need-returns-2
+returns-2 c = search (needs, settles-put)
+
+pub settle-spec : {M : Type 1} → statement M
+settle-spec =
+    tie.close
+    (tie.spec
+    (λ c. search needs) (λ c. search needs) roll-back-requires (λ c. search needs) (λ c. search needs) returns (λ c κs. search needs) returns-2)

@@ -1,0 +1,13 @@
+use borrow.Author.Needs.{needs}
+use Rattle.text.specs.Engine.{started}
+use Rattle.text.proofs.engine.start.Statement.{statement}
+use Rattle.text.proofs.engine.start.Tie as tie
+
+returns : tie.Need-returns
+returns c = search (needs, started)
+
+pub start-spec : {M : Type 1} → statement M
+start-spec =
+    tie.close
+    (tie.spec
+    (λ c κs. search needs) (λ c κs. search needs) (λ c. search needs) (λ c. search needs) returns)

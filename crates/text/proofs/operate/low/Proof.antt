@@ -1,0 +1,21 @@
+use borrow.Author.Needs.{needs}
+use Rattle.diagram.specs.Standing.{standing-depended, free-alike}
+use Rattle.text.specs.Respond.{refused-depends, lowers}
+use Rattle.text.proofs.operate.low.Statement.{statement}
+use Rattle.text.proofs.operate.low.Tie as tie
+
+returns : tie.Need-returns
+returns c = search (needs, refused-depends)
+
+lower-requires : tie.Need-lower-requires
+lower-requires c κs = (search (needs, standing-depended), (search needs, (search needs, (search needs, search (needs, free-alike)))))
+
+returns-2 : tie.Need-returns-2
+returns-2 c = search (needs, lowers)
+
+pub low-spec : {M : Type 1} → statement M
+low-spec =
+    tie.close
+    (tie.spec
+    (λ c. search needs) (λ c κs. search needs) (λ c κs. search needs) (λ c. search needs) returns lower-requires (λ c. search needs)
+    (λ c. search needs) returns-2)

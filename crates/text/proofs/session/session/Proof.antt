@@ -1,0 +1,13 @@
+use borrow.Author.Needs.{needs}
+use Rattle.text.specs.Progress.{whole-text}
+use Rattle.text.proofs.session.session.Statement.{statement}
+use Rattle.text.proofs.session.session.Tie as tie
+
+returns : tie.Need-returns
+returns c = search (needs, whole-text)
+
+pub session-spec : {M : Type 1} → statement M
+session-spec =
+    tie.close
+    (tie.spec
+    (λ c κs. search needs) (λ c. search needs) (λ c. search needs) (λ c. search needs) returns)

@@ -1,0 +1,95 @@
+-- What the engine keeps between lines gives demand 3's sentences.
+use mathlib.Core.Path.{_≡_, refl, ap, sym, _∙_}
+use mathlib.Core.Logic.{_↔_}
+use mathlib.Core.Bool.{Bool, true, false, cond}
+use mathlib.Core.List.{List}
+use mathlib.Core.Option.{Option, none, some}
+use Prim.Native.Nat.{ℕ, _+_, _≤_, _<_}
+use native.Mathlib.Omega.{arith}
+use lib.ListN.{length, take, drop, getD, length-append}
+use lib.Seq.{take-append-seam}
+use Rattle.diagram.specs.Weights.{Weight, toWeight}
+use Rattle.diagram.specs.Tensor.{Tensor, indices, scale}
+use Rattle.diagram.specs.ValueLaws.{agree-exactly}
+use Rattle.diagram.specs.Node.{edge-eq}
+use Rattle.diagram.specs.Meaning.{tensorAt, edgeIn, Valid}
+use Rattle.diagram.specs.Engine.{nodesOf, setOf, tensorOf, node-multiple, edge-unique}
+use Rattle.diagram.specs.Registers.{emptyRegister, holds, holdsAll, holds-at, register-valid}
+use Rattle.diagram.specs.Standing.{Standing}
+use Rattle.diagram.specs.declared.node.Edge.{Edge}
+use Rattle.diagram.specs.declared.make.State.{State}
+use Rattle.diagram.specs.declared.registers.Register.{Register}
+use Rattle.text.specs.Text.{Bytes}
+use Rattle.text.specs.Answers.{written}
+use Rattle.text.specs.Session.{Run}
+use Rattle.text.specs.Agrees.{nodeTensors, isFilled, Agree, Agrees}
+use Rattle.text.specs.declared.progress.Session.{Session}
+
+pub node-tensors : (s : List ℕ) (st : State) → nodeTensors s (st .count) ≡ setOf s st
+unfolding nodeTensors setOf nodesOf
+node-tensors s st = refl
+
+abbrev at : List Register → ℕ → Register
+at rs i = getD rs i emptyRegister
+
+module _ {c s : List ℕ} {st : State} {rs : List Register} (p : Standing c s st rs) where
+  abbrev holding : ℕ → Option (Tensor indices)
+  holding i = getD (holdsAll (setOf s st) rs) i none
+
+  pub same-filled : (i : ℕ) → at rs i .filled ≡ isFilled (holding i)
+  unfolding holds
+  same-filled i = sym (ap isFilled (holds-at (setOf s st) rs i) ∙ go (at rs i .filled))
+    where
+      go : (b : Bool) → isFilled (cond b (some (edgeIn (setOf s st) (at rs i .edge))) none) ≡ b
+      go true = refl
+      go false = refl
+
+  pub filled-tensor : (i : ℕ) → at rs i .filled ≡ true → holding i ≡ some (tensorOf s st (at rs i .edge))
+  unfolding holds tensorOf
+  filled-tensor i q = holds-at (setOf s st) rs i ∙ ap (λ b. cond b (some (edgeIn (setOf s st) (at rs i .edge))) none) q
+
+  pub weight-times-node : (i : ℕ) → at rs i .filled ≡ true
+      → holding i ≡ some (scale (toWeight (at rs i .edge .weight)) (tensorAt (nodeTensors s (st .count)) (at rs i .edge .node)))
+  unfolding tensorOf edgeIn
+  weight-times-node i q = rw (node-tensors s st) (filled-tensor i q)
+
+  unfoldable tensorIn : Option (Tensor indices) → Tensor indices → Tensor indices
+  tensorIn none T = T
+  tensorIn (some A) T = A
+
+  -- a register in which the tally holds a tensor has an edge with it
+  module _ (i : ℕ) (l : i < 16) {A : Tensor indices} (q : holding i ≡ some A) where
+    full : at rs i .filled ≡ true
+    full = same-filled i ∙ ap isFilled q
+
+    is-tensor : tensorOf s st (at rs i .edge) ≡ A
+    unfolding tensorIn
+    is-tensor = ap (λ o. tensorIn o A) (sym (filled-tensor i full) ∙ q)
+
+    valid : Valid (st .count) (at rs i .edge)
+    valid = register-valid (st .count) rs i (p .registers .valid) (omega (arith, p .registers .sixteen)) full
+
+  pub same-exactly : (i j : ℕ) → i < 16 → j < 16 → (A B : Tensor indices) → holding i ≡ some A → holding j ≡ some B
+      → ((at rs i .edge .weight ≡ at rs j .edge .weight) × (at rs i .edge .node ≡ at rs j .edge .node)) ↔ Agree A B
+  same-exactly i j k l A B q r = (
+    λ w. agree-exactly A B .0 (sym (is-tensor i k q) ∙ ap (tensorOf s st) (edge-eq (w .0) (w .1)) ∙ is-tensor j l r),
+    λ w. one (edge-unique (p .held) (valid i k q) (valid j l r) (is-tensor i k q ∙ agree-exactly A B .1 w ∙ sym (is-tensor j l r))),
+  )
+    where
+      one : at rs i .edge ≡ at rs j .edge → (at rs i .edge .weight ≡ at rs j .edge .weight) × (at rs i .edge .node ≡ at rs j .edge .node)
+      one e = (ap (λ (x : Edge). x .weight) e, ap (λ (x : Edge). x .node) e)
+
+  pub no-multiples : (m n : ℕ) (f : Weight) → m ≤ st .count → n ≤ st .count
+      → tensorAt (nodeTensors s (st .count)) m ≡ scale f (tensorAt (nodeTensors s (st .count)) n) → m ≡ n
+  no-multiples m n f k l e = node-multiple (p .held) m n f k l (rw (node-tensors s st) at e)
+
+-- what a run prints stands at the front of the output
+
+module _ {s o o' : Bytes} {r : Session} {t : Run indices} (a : Agrees s o o' r t) where
+  pub printed-front : take (r .bytes) o' ≡ t .output
+  unfolding written
+  printed-front = rw (a .bytes, a .printed) (take-append-seam (t .output) (drop (0 + length (t .output)) o))
+
+  pub printed-within : r .bytes ≤ length o'
+  unfolding written
+  printed-within = rw (a .printed) (omega (arith, a .bytes, length-append (t .output) (drop (0 + length (t .output)) o)))

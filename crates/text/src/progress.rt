@@ -1,0 +1,133 @@
+// Where a session stands, line after line (document 01, "Session calls").
+use crate::answer;
+use crate::engine::Engine;
+use crate::line;
+use crate::respond;
+use crate::split;
+use diagram::registers::Registers;
+ghost use mathlib.Core.Path.{_≡_};
+ghost use Prim.Native.Nat.{_+_, _≤_, _<_};
+ghost use lib.ListN.{length};
+ghost use Rattle.diagram.specs.Standing.{Standing};
+ghost use Rattle.text.specs.Progress.{LineAnswered, Turnable, Turned, Resumed, stopped, resultOf};
+
+// "The result gives the code (0 or 9), lines answered, bytes written, the node count and the sixteen registers."
+pub struct Session {
+    pub code: usize,
+    pub lines: usize,
+    pub bytes: usize,
+    pub count: usize,
+    pub registers: Registers,
+}
+
+// Where a run stands; the text is read up to `place`.
+pub struct Progress {
+    pub code: usize,
+    pub lines: usize,
+    pub bytes: usize,
+    pub place: usize,
+    pub engine: Engine,
+}
+
+// One line, which ends before `place`. Its answer goes behind those before it.
+fn answer_line(
+    line: &[u8],
+    store: &mut [u8],
+    cache: &mut [u64],
+    out: &mut [u8],
+    p: Progress,
+    place: usize,
+) -> Progress
+    requires { ⌜ Standing (now cache) (now store) (p .engine .state) (p .engine .registers .all) ×
+        ((p .bytes + 16 ≤ length (now out)) × (p .lines < 18446744073709551615)) ⌝ }
+    ensures { λ r. ⌜ LineAnswered (now (line .entry)) place (now (store .entry)) (now (cache .exit)) (now (store .exit)) (now (out .entry)) (now (out .exit)) p r ⌝ }
+{
+    let call = line::read(line);
+    let reply = respond::respond(store, cache, p.engine, call);
+    let engine = reply.engine;
+    let answer = reply.answer;
+    let bytes = answer::write(out, p.bytes, answer);
+    let lines = p.lines + 1;
+    Progress {
+        code: 0,
+        lines,
+        bytes,
+        place,
+        engine,
+    }
+}
+
+// The next line of the text.
+fn turn(text: &[u8], store: &mut [u8], cache: &mut [u64], out: &mut [u8], p: Progress) -> Progress
+    requires { ⌜ Standing (now cache) (now store) (p .engine .state) (p .engine .registers .all) × Turnable (now text) (now out) p ⌝ }
+    ensures { λ r. ⌜ Turned (now (text .entry)) (now (store .entry)) (now (cache .exit)) (now (store .exit)) (now (out .entry)) (now (out .exit)) p r ⌝ }
+{
+    let place = p.place;
+    let e = split::end(text, place, b'\n');
+    answer_line(&text[place..e], store, cache, out, p, e + 1)
+}
+
+// "the run stops with 9 and the line is not begun"
+fn stop(p: Progress) -> Progress
+    ensures { λ r. ⌜ r ≡ stopped p ⌝ }
+{
+    let lines = p.lines;
+    let bytes = p.bytes;
+    let place = p.place;
+    let engine = p.engine;
+    Progress {
+        code: 9,
+        lines,
+        bytes,
+        place,
+        engine,
+    }
+}
+
+// Answers the lines of a text, `limit` of them at most, from what an earlier part of the session has left.
+pub fn resume(
+    text: &[u8],
+    store: &mut [u8],
+    cache: &mut [u64],
+    out: &mut [u8],
+    limit: usize,
+    engine: Engine,
+) -> Progress
+    requires { ⌜ Standing (now cache) (now store) (engine .state) (engine .registers .all) ⌝ }
+    ensures { λ r. ⌜ Resumed (now (text .entry)) limit engine (now (store .entry)) (now (cache .exit)) (now (store .exit)) (now (out .entry)) (now (out .exit)) r ⌝ }
+{
+    let mut p = Progress {
+        code: 0,
+        lines: 0,
+        bytes: 0,
+        place: 0,
+        engine,
+    };
+    while p.place < text.len() {
+        if p.lines == limit {
+            return p;
+        }
+        if out.len() - p.bytes < 16 {
+            return stop(p);
+        }
+        p = turn(text, store, cache, out, p);
+    }
+    p
+}
+
+pub(crate) fn result(p: Progress) -> Session
+    ensures { λ r. ⌜ r ≡ resultOf p ⌝ }
+{
+    let code = p.code;
+    let lines = p.lines;
+    let bytes = p.bytes;
+    let count = p.engine.state.count;
+    let registers = p.engine.registers;
+    Session {
+        code,
+        lines,
+        bytes,
+        count,
+        registers,
+    }
+}

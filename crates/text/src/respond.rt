@@ -1,0 +1,147 @@
+// What a call does and answers (document 01, "Session calls"). Its line was read, so 1, 2, 4, 5 and 6 are past: "3 from the left; 7; 8".
+use crate::answer::Answer;
+use crate::call::Call;
+use crate::call::Refusal;
+use crate::engine;
+use crate::engine::Engine;
+use crate::engine::Reply;
+use crate::operate;
+use diagram::collect;
+use diagram::compare;
+use diagram::compare::Comparison;
+use diagram::registers;
+use diagram::registers::Held;
+use diagram::value;
+ghost use mathlib.Core.Path.{_≡_};
+ghost use Rattle.diagram.specs.Engine.{Sound};
+ghost use Rattle.diagram.specs.Registers.{Registered};
+ghost use Rattle.diagram.specs.Standing.{Standing};
+ghost use Rattle.text.specs.Session.{comparison};
+ghost use Rattle.text.specs.Calls.{Ranged};
+ghost use Rattle.text.specs.Engine.{Responds, Observes, Replies};
+ghost use Rattle.text.specs.declared.call.Call.the-variants as call;
+
+fn add(store: &mut [u8], cache: &mut [u64], engine: Engine, d: usize, a: usize, b: usize) -> Reply
+    requires { ⌜ Standing (now cache) (now store) (engine .state) (engine .registers .all) × Ranged (call.Add d a b) ⌝ }
+    ensures { λ r. ⌜ Responds (now (cache .exit)) (now (store .entry)) (now (store .exit)) engine (call.Add d a b) r ⌝ }
+{
+    let Held::Edge(x) = registers::get(engine.registers, a) else {
+        return engine::refuse(engine, Refusal::Empty);
+    };
+    let Held::Edge(y) = registers::get(engine.registers, b) else {
+        return engine::refuse(engine, Refusal::Empty);
+    };
+    operate::add(store, cache, engine, d, x, y)
+}
+
+fn cont(
+    store: &mut [u8],
+    cache: &mut [u64],
+    engine: Engine,
+    d: usize,
+    a: usize,
+    b: usize,
+    m: usize,
+) -> Reply
+    requires { ⌜ Standing (now cache) (now store) (engine .state) (engine .registers .all) × Ranged (call.Cont d a b m) ⌝ }
+    ensures { λ r. ⌜ Responds (now (cache .exit)) (now (store .entry)) (now (store .exit)) engine (call.Cont d a b m) r ⌝ }
+{
+    let Held::Edge(x) = registers::get(engine.registers, a) else {
+        return engine::refuse(engine, Refusal::Empty);
+    };
+    let Held::Edge(y) = registers::get(engine.registers, b) else {
+        return engine::refuse(engine, Refusal::Empty);
+    };
+    operate::cont(store, cache, engine, d, x, y, m)
+}
+
+fn low(store: &mut [u8], cache: &mut [u64], engine: Engine, d: usize, a: usize, k: usize) -> Reply
+    requires { ⌜ Standing (now cache) (now store) (engine .state) (engine .registers .all) × Ranged (call.Low d a k) ⌝ }
+    ensures { λ r. ⌜ Responds (now (cache .exit)) (now (store .entry)) (now (store .exit)) engine (call.Low d a k) r ⌝ }
+{
+    let Held::Edge(x) = registers::get(engine.registers, a) else {
+        return engine::refuse(engine, Refusal::Empty);
+    };
+    operate::low(store, cache, engine, d, x, k)
+}
+
+fn drop(engine: Engine, a: usize) -> Reply
+    requires { ⌜ Ranged (call.Drop a) ⌝ }
+    ensures { λ r. ⌜ Replies engine (call.Drop a) r ⌝ }
+{
+    let Held::Edge(_) = registers::get(engine.registers, a) else {
+        return engine::refuse(engine, Refusal::Empty);
+    };
+    let state = engine.state;
+    let answer = Answer::Ok(state.count);
+    let registers = registers::clear(engine.registers, a);
+    let engine = Engine { state, registers };
+    Reply { answer, engine }
+}
+
+fn collect(store: &mut [u8], cache: &mut [u64], engine: Engine) -> Reply
+    requires { ⌜ Standing (now cache) (now store) (engine .state) (engine .registers .all) ⌝ }
+    ensures { λ r. ⌜ Responds (now (cache .exit)) (now (store .entry)) (now (store .exit)) engine call.Collect r ⌝ }
+{
+    let swept = collect::collect(store, cache, engine.state, engine.registers);
+    let state = swept.state;
+    let registers = swept.registers;
+    let answer = Answer::Ok(state.count);
+    let engine = Engine { state, registers };
+    Reply { answer, engine }
+}
+
+fn at(store: &[u8], engine: Engine, a: usize, v: usize) -> Reply
+    requires { ⌜ Sound (now store) (engine .state) × (Registered (engine .state .count) (engine .registers .all) × Ranged (call.At a v)) ⌝ }
+    ensures { λ r. ⌜ Observes (now (store .entry)) engine (call.At a v) r ⌝ }
+{
+    let Held::Edge(x) = registers::get(engine.registers, a) else {
+        return engine::refuse(engine, Refusal::Empty);
+    };
+    let w = value::value(store, engine.state, x, v as u64);
+    let answer = Answer::Value(w as usize);
+    Reply { answer, engine }
+}
+
+fn compared(c: Comparison) -> Answer
+    ensures { λ r. ⌜ r ≡ comparison c ⌝ }
+{
+    match c {
+        Comparison::Same => Answer::Same,
+        Comparison::Factor(f) => Answer::Factor(f as usize),
+        Comparison::Differ => Answer::Differ,
+    }
+}
+
+pub(crate) fn cmp(engine: Engine, a: usize, b: usize) -> Reply
+    requires { ⌜ Registered (engine .state .count) (engine .registers .all) × Ranged (call.Cmp a b) ⌝ }
+    ensures { λ r. ⌜ Replies engine (call.Cmp a b) r ⌝ }
+{
+    let Held::Edge(x) = registers::get(engine.registers, a) else {
+        return engine::refuse(engine, Refusal::Empty);
+    };
+    let Held::Edge(y) = registers::get(engine.registers, b) else {
+        return engine::refuse(engine, Refusal::Empty);
+    };
+    let answer = compared(compare::compare(x, y));
+    Reply { answer, engine }
+}
+
+pub(crate) fn respond(store: &mut [u8], cache: &mut [u64], engine: Engine, call: Call) -> Reply
+    requires { ⌜ Standing (now cache) (now store) (engine .state) (engine .registers .all) × Ranged call ⌝ }
+    ensures { λ r. ⌜ Responds (now (cache .exit)) (now (store .entry)) (now (store .exit)) engine call r ⌝ }
+{
+    match call {
+        Call::Put(d, w) => operate::put(store, cache, engine, d, w),
+        Call::Gate(d, g) => operate::gate(store, cache, engine, d, g),
+        Call::Unit(d, n) => operate::unit(store, cache, engine, d, n),
+        Call::Add(d, a, b) => add(store, cache, engine, d, a, b),
+        Call::Cont(d, a, b, m) => cont(store, cache, engine, d, a, b, m),
+        Call::Low(d, a, k) => low(store, cache, engine, d, a, k),
+        Call::Drop(a) => drop(engine, a),
+        Call::Collect => collect(store, cache, engine),
+        Call::At(a, v) => at(store, engine, a, v),
+        Call::Cmp(a, b) => cmp(engine, a, b),
+        Call::Refused(r) => engine::refuse(engine, r),
+    }
+}
