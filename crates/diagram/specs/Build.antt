@@ -3,7 +3,7 @@ use mathlib.Core.Path.{_≡_, ap, ap₂, sym, subst, fun-ext, _∙_}
 use mathlib.Core.Logic.{_≢_}
 use mathlib.Core.Bool.{Bool, true, false}
 use mathlib.Core.List.{List}
-use Prim.Native.Nat.{ℕ, suc, _+_, _*_, _%_, _^_, _≤_, _<_}
+use Prim.Native.Nat.{ℕ, zero, suc, _+_, _-_, _*_, _/_, _%_, _^_, _≤_, _<_}
 use native.Mathlib.Omega.{arith}
 use native.Mathlib.Numerals.{add-one}
 use native.Mathlib.Nat.{pow-le-pow-right}
@@ -18,7 +18,8 @@ use Rattle.diagram.specs.BuildLaws.{fix-tabulate}
 use Rattle.diagram.specs.Mask.{one-shl}
 use Rattle.diagram.specs.Gates.{entry, gateTensor}
 use Rattle.diagram.specs.GateLaws.{gate-value}
-use Rattle.diagram.specs.Entry.{uses, unused-entry}
+use Rattle.diagram.specs.Entry.{uses, unused, unused-entry}
+use Rattle.diagram.specs.Matrices.{first, second}
 use Rattle.diagram.specs.Fixed.{fixed, fixed-none, fixed-from, fixed-all, fixed-split, fixed-free, low-bits, high-bits}
 use Rattle.diagram.specs.Engine.{Sound, Done, Over, Does, does-done, does-over}
 use Rattle.diagram.specs.BuildSteps.{built-constant, build-low-full, build-high-full, Joins, build-joins}
@@ -27,6 +28,32 @@ use Rattle.diagram.specs.declared.node.Edge.{Edge}
 use Rattle.diagram.specs.declared.make.State.{State}
 use Rattle.diagram.specs.declared.join.Made.{Made}
 use Rattle.diagram.specs.declared.join.Made.the-variants as made
+
+-- from k on and below r no index is a middle or fresh index of p or q
+pub record Owned (p q k r : ℕ) : Type 0 where
+  pub from : k ≤ r
+  pub inside : r ≤ 24
+  pub others : (j : ℕ) → k ≤ j → j < r → j % 3 ≢ 0 → (j / 3 ≢ p) × (j / 3 ≢ q)
+
+-- the gate uses no index from k on that is below r
+pub record Next (g : Gate) (k r : ℕ) : Type 0 where
+  pub from : k ≤ r
+  pub inside : r ≤ 24
+  pub unused : (j : ℕ) → k ≤ j → j < r → uses g j ≡ false
+
+pub next-owned : {g : Gate} {a b k r : ℕ} → a ≡ first g → b ≡ second g → Owned a b k r → Next g k r
+next-owned {g} p q o = record {
+  from = o .from;
+  inside = o .inside;
+  unused = λ j l h. unused g j (λ n. rw (p, q) at (o .others j l h n));
+}
+
+pub next-owned-turned : {g : Gate} {a b k r : ℕ} → a ≡ first g → b ≡ second g → Owned b a k r → Next g k r
+next-owned-turned p q o = next-owned p q record {
+  from = o .from;
+  inside = o .inside;
+  others = λ j l h n. let m = o .others j l h n in (m .1, m .0);
+}
 
 -- the gate's tensor with its indices below k fixed as the bits of v
 unfoldable pub gatePart : Gate → ℕ → ℕ → Tensor indices
@@ -56,6 +83,13 @@ module _ {k v : ℕ} (p : Prefix k v) (index : k ≢ 24) where
   pub prefix-set : v + (1 * 2 ^ k) % 2 ^ 64 ≡ v + 2 ^ k
   prefix-set = rw (one-shl k prefix-shift)
 
+-- the indices that the gate does not use are fixed too
+pub prefix-next : {g : Gate} {k r v : ℕ} → Prefix k v → Next g k r → Prefix r v
+prefix-next {k = k} {r = r} p n = record { inside = n .inside; below = omega (arith, p .below, pow-le-pow-right {n = 2} (omega arith) {i = k} {j = r} (n .from)) }
+
+pub prefix-first : {g : Gate} {r : ℕ} → Next g 0 r → Prefix r 0
+prefix-first n = prefix-next record { inside = omega arith; below = omega arith } n
+
 -- the parts of a gate
 
 pub part-whole : (g : Gate) → gatePart g 0 0 ≡ gateTensor indices g
@@ -83,6 +117,13 @@ part-skip : (g : Gate) (k v : ℕ) → k < 24 → uses g k ≡ false → gatePar
 unfolding gatePart
 part-skip g k v p e = rw (add-one k) (fixed-free k (bits v) (gateTensor indices g) (gate-free g k p e))
 
+part-next : {g : Gate} {k r : ℕ} (v : ℕ) → Next g k r → gatePart g r v ≡ gatePart g k v
+part-next {g} {k} {r} v n = go (r - k) k (omega (arith, n .from)) (omega arith)
+  where
+    go : (m j : ℕ) → j + m ≡ r → k ≤ j → gatePart g r v ≡ gatePart g j v
+    go zero j e l = let same : r ≡ j = omega arith in ap (λ i. gatePart g i v) same
+    go (suc m) j e l = go m (j + 1) (omega arith) (omega arith) ∙ part-skip g j v (omega (arith, n .inside)) (n .unused j l (omega arith))
+
 part-split : (g : Gate) (k v : ℕ) → v < 2 ^ k → gatePart g k v ≡ joined k (gatePart g (k + 1) v) (gatePart g (k + 1) (v + 2 ^ k))
 unfolding gatePart
 part-split g k v p = rw (add-one k) (fixed-split k (bits v) (gateTensor indices g)
@@ -98,12 +139,13 @@ gate-leaf {s} {st} g k v {w} h p z e =
     (ap (constant indices) (e .is) ∙ sym (ap (λ j. gatePart g j v) z ∙ part-leaf g v small))
     (built-constant w h (e .small))
 
--- no index fixed: the gate
-pub gate-whole : (s s' : List ℕ) (st : State) (g : Gate) (r : Made) → Does s s' st (build (gatePart g 0 0)) r → Does s s' st (build (gateTensor indices g)) r
-gate-whole s s' st g r d = subst (λ T. Does s s' st (build T) r) (part-whole g) d
+-- no index fixed that the gate uses: the gate
+pub gate-whole : (s s' : List ℕ) (st : State) (g : Gate) {k : ℕ} (r : Made) → Next g 0 k → Does s s' st (build (gatePart g k 0)) r
+    → Does s s' st (build (gateTensor indices g)) r
+gate-whole s s' st g r n d = subst (λ T. Does s s' st (build T) r) (part-next 0 n ∙ part-whole g) d
 
--- k is an index: the part is that with k fixed to 0, and then that with k fixed to 1, joined
-module _ (g : Gate) (k v : ℕ) (index : k ≢ 24) (p : Prefix k v) where
+-- k is an index: the part is that with k fixed to 0, and then that with k fixed to 1, joined; n is the next index that the gate uses
+module _ (g : Gate) (k v : ℕ) (index : k ≢ 24) (p : Prefix k v) {n : ℕ} (next : Next g (k + 1) n) where
   inside : k < 24
   inside = omega (arith, p .inside)
 
@@ -115,10 +157,9 @@ module _ (g : Gate) (k v : ℕ) (index : k ≢ 24) (p : Prefix k v) where
       subst (λ T. Over s s₁ st (build T)) (sym (part-split g k v (p .below))) (build-low-full k _ _ inside (above v) (above (v + 2 ^ k)) o)
 
   -- the low part was answered by r
-  module _ (s s₁ : List ℕ) (st : State) (r : Made) (low : Does s s₁ st (build (gatePart g (k + 1) v)) r) where
-    -- the gate does not use k
-    pub gate-skip : (b : Bool) → b ≡ uses g k → b ≡ false → Does s s₁ st (build (gatePart g k v)) r
-    gate-skip b e f = subst (λ T. Does s s₁ st (build T) r) (part-skip g k v inside (sym e ∙ f)) low
+  module _ (s s₁ : List ℕ) (st : State) (r : Made) (does-low : Does s s₁ st (build (gatePart g n v)) r) where
+    low : Does s s₁ st (build (gatePart g (k + 1) v)) r
+    low = subst (λ T. Does s s₁ st (build T) r) (part-next v next) does-low
 
     pub gate-low-full : r ≡ made.Full → Over s s₁ st (build (gatePart g k v))
     gate-low-full e = low-full (does-over _ r low e)
@@ -131,7 +172,10 @@ module _ (g : Gate) (k v : ℕ) (index : k ≢ 24) (p : Prefix k v) where
       gate-sound = d .held
 
       -- the high part was answered by r'
-      module _ {w : ℕ} (high : w ≡ v + 2 ^ k) (s₂ : List ℕ) (r' : Made) (does : Does s₁ s₂ t (build (gatePart g (k + 1) w)) r') where
+      module _ {w : ℕ} (high : w ≡ v + 2 ^ k) (s₂ : List ℕ) (r' : Made) (does-high : Does s₁ s₂ t (build (gatePart g n w)) r') where
+        does : Does s₁ s₂ t (build (gatePart g (k + 1) w)) r'
+        does = subst (λ T. Does s₁ s₂ t (build T) r') (part-next w next) does-high
+
         split : joined k (gatePart g (k + 1) v) (gatePart g (k + 1) w) ≡ gatePart g k v
         split = rw high (sym (part-split g k v (p .below)))
 

@@ -14,7 +14,6 @@ use Rattle.diagram.specs.Node.{nodeAt}
 use Rattle.diagram.specs.Listed.{listed}
 use Rattle.diagram.specs.Meaning.{tensorAt, tensors}
 use Rattle.diagram.specs.Canonical.{Placed, Canonical}
-use Rattle.diagram.specs.Insert as insert
 use Rattle.diagram.specs.Engine.{nodesOf, setOf, nodes-length, node-at, Sound}
 use Rattle.diagram.specs.Cache.{Past, Stepped}
 use Rattle.diagram.specs.Restore.{Left, Restored}

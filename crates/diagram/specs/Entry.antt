@@ -7,7 +7,7 @@ use Prim.Native.Nat.{ℕ, _+_, _*_, _/_, _%_, _<_}
 use native.Mathlib.Omega.{arith}
 use lib.Dec.{eqb}
 use lib.ListN.{getD, List·getD-map}
-use borrow.Author.Tests.{eqb-true, eq-eqb, ne-eqb}
+use borrow.Author.Tests.{eqb-true, eqb-false, eq-eqb, ne-eqb}
 use Rattle.field.specs.Weight.{Weight, toWeight, 0W, 1W, negateW}
 use Rattle.field.specs.Ring.{weight-number}
 use Rattle.field.specs.Code.{Stands}
@@ -117,17 +117,15 @@ entry-pair {g} {h} v e p q x y t = stands-number (entry g (bits v)) (t ∙ rw (q
 unfoldable pub uses : Gate → ℕ → Bool
 uses g k = not (eqb (k % 3) 0) && (eqb (k / 3) (first g) || eqb (k / 3) (second g))
 
-pub uses-input : (g : Gate) (k : ℕ) → k % 3 ≡ 0 → false ≡ uses g k
+pub unused : (g : Gate) (k : ℕ) → (k % 3 ≢ 0 → (k / 3 ≢ first g) × (k / 3 ≢ second g)) → uses g k ≡ false
 unfolding uses
-uses-input g k e = rw (eq-eqb (k % 3) 0 e)
-
-pub uses-first : (g : Gate) (k : ℕ) {q : ℕ} → k % 3 ≢ 0 → q ≡ first g → k / 3 ≡ q → true ≡ uses g k
-unfolding uses
-uses-first g k n e p = rw (ne-eqb (k % 3) 0 n, eq-eqb (k / 3) (first g) (p ∙ e))
-
-pub uses-second : (g : Gate) (k : ℕ) {q r : ℕ} → k % 3 ≢ 0 → q ≡ first g → k / 3 ≢ q → r ≡ second g → eqb (k / 3) r ≡ uses g k
-unfolding uses
-uses-second g k n e p q = rw (ne-eqb (k % 3) 0 n, ne-eqb (k / 3) (first g) (λ i. p (i ∙ sym e)), q)
+unused g k n = go (eqb (k % 3) 0) refl
+  where
+    go : (b : Bool) → eqb (k % 3) 0 ≡ b → not b && (eqb (k / 3) (first g) || eqb (k / 3) (second g)) ≡ false
+    go true e = refl
+    go false e =
+        let m = n (eqb-false (k % 3) 0 e) in
+        rw (ne-eqb (k / 3) (first g) (m .0), ne-eqb (k / 3) (second g) (m .1))
 
 -- an entry depends on the indices that the gate uses, and on no other
 

@@ -1,6 +1,6 @@
 -- A node is marked exactly when its tensor is one that a collection keeps: marks from the registers' nodes, spread to children and no further,
 -- are "the nonconstant tensors got from filled registers by fixing indices 0 to j-1, for j from 0 to 23".
-use mathlib.Core.Path.{_≡_, refl, ap, ap₂, sym, subst, _∙_}
+use mathlib.Core.Path.{_≡_, refl, ap, sym, _∙_}
 use mathlib.Core.Logic.{_≢_}
 use mathlib.Core.Bool.{Bool, true, false, cond, _||_, false≢true}
 use mathlib.Core.List.{List, [], _∷_, _++_, append-nil}

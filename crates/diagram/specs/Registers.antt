@@ -5,6 +5,7 @@ use mathlib.Core.List.{List, [], _∷_, _++_}
 use mathlib.Core.Option.{Option, none, some}
 use Prim.Native.Nat.{ℕ, zero, suc, _≤_, _<_}
 use native.Mathlib.Omega.{arith}
+use lib.Dec.{eqb}
 use lib.ListN.{length, length-set, getD, set, replicate}
 use Rattle.diagram.specs.Tensor.{Tensor}
 use Rattle.diagram.specs.Tally.{Set, filled}
@@ -18,14 +19,18 @@ use Rattle.diagram.specs.declared.registers.Held.the-variants as Held
 
 -- "sixteen registers, each empty or a tensor, all empty at first": an empty one has no edge that is looked at
 abbrev pub emptyRegister : Register
-emptyRegister = record { filled = false; edge = record { weight = 0; node = 0 } }
+emptyRegister = record { filled = 0; edge = record { weight = 0; node = 0 } }
 
 abbrev pub filledWith : Edge → Register
-filledWith e = record { filled = true; edge = e }
+filledWith e = record { filled = 1; edge = e }
+
+-- a register is filled
+abbrev pub occupied : Register → Bool
+occupied r = eqb (r .filled) 1
 
 -- what is read from a register
 unfoldable pub heldBy : Register → Held
-heldBy r = cond (r .filled) (Held.Edge (r .edge)) Held.Empty
+heldBy r = cond (occupied r) (Held.Edge (r .edge)) Held.Empty
 
 -- register i was read as h
 pub record Reads (rs : List Register) (i : ℕ) (h : Held) : Type 0 where
@@ -36,7 +41,7 @@ emptied = replicate 16 emptyRegister
 
 -- "Each filled register's weight times its node's tensor is the tensor that the tally holds there", where ts are the nodes' tensors
 unfoldable pub holds : {d : ℕ} → Set d → Register → Option (Tensor d)
-holds ts r = cond (r .filled) (some (edgeIn ts (r .edge))) none
+holds ts r = cond (occupied r) (some (edgeIn ts (r .edge))) none
 
 unfoldable pub holdsAll : {d : ℕ} → Set d → List Register → List (Option (Tensor d))
 holdsAll ts [] = []
@@ -50,7 +55,7 @@ weightsOf (r ∷ rs) = r .edge .weight ∷ weightsOf rs
 -- the edges of the filled registers
 unfoldable pub edgesOf : List Register → List Edge
 edgesOf [] = []
-edgesOf (r ∷ rs) = cond (r .filled) (r .edge ∷ edgesOf rs) (edgesOf rs)
+edgesOf (r ∷ rs) = cond (occupied r) (r .edge ∷ edgesOf rs) (edgesOf rs)
 
 -- sixteen registers, the filled ones with edges to nodes 0 .. m
 pub record Registered (m : ℕ) (rs : List Register) : Type 0 where
@@ -64,7 +69,7 @@ registered-none m = record { sixteen = refl; valid = tt }
 pub filled-edges : {d : ℕ} (ts : Set d) (rs : List Register) → filled (holdsAll ts rs) ≡ tensorsOf ts (edgesOf rs)
 unfolding filled holdsAll holds edgesOf tensorsOf
 filled-edges ts [] = refl
-filled-edges ts (r ∷ rs) = go (r .filled) (filled-edges ts rs)
+filled-edges ts (r ∷ rs) = go (occupied r) (filled-edges ts rs)
   where
     go : (b : Bool) → filled (holdsAll ts rs) ≡ tensorsOf ts (edgesOf rs)
         → filled (cond b (some (edgeIn ts (r .edge))) none ∷ holdsAll ts rs) ≡ tensorsOf ts (cond b (r .edge ∷ edgesOf rs) (edgesOf rs))
@@ -74,7 +79,7 @@ filled-edges ts (r ∷ rs) = go (r .filled) (filled-edges ts rs)
 pub edges-append : (rs ss : List Register) → edgesOf (rs ++ ss) ≡ edgesOf rs ++ edgesOf ss
 unfolding edgesOf
 edges-append [] ss = refl
-edges-append (r ∷ rs) ss = go (r .filled) (edges-append rs ss)
+edges-append (r ∷ rs) ss = go (occupied r) (edges-append rs ss)
   where
     go : (b : Bool) → edgesOf (rs ++ ss) ≡ edgesOf rs ++ edgesOf ss
         → cond b (r .edge ∷ edgesOf (rs ++ ss)) (edgesOf (rs ++ ss)) ≡ cond b (r .edge ∷ edgesOf rs) (edgesOf rs) ++ edgesOf ss
@@ -87,12 +92,12 @@ valid-tail : (count : ℕ) (b : Bool) (e : Edge) (es : List Edge) → AllValid c
 valid-tail count true e es v = v .1
 valid-tail count false e es v = v
 
-pub register-valid : (count : ℕ) (rs : List Register) (i : ℕ) → AllValid count (edgesOf rs) → i < length rs → getD rs i emptyRegister .filled ≡ true
+pub register-valid : (count : ℕ) (rs : List Register) (i : ℕ) → AllValid count (edgesOf rs) → i < length rs → occupied (getD rs i emptyRegister) ≡ true
     → Valid count (getD rs i emptyRegister .edge)
 unfolding edgesOf
 register-valid count [] i v p e = absurd (omega arith)
 register-valid count (r ∷ rs) zero v p e = (rw e at v) .0
-register-valid count (r ∷ rs) (suc i) v p e = register-valid count rs i (valid-tail count (r .filled) (r .edge) (edgesOf rs) v) (omega arith) e
+register-valid count (r ∷ rs) (suc i) v p e = register-valid count rs i (valid-tail count (occupied r) (r .edge) (edgesOf rs) v) (omega arith) e
 
 -- reading and setting a register
 
@@ -117,13 +122,13 @@ valid-head m true e es v p = v .0
 valid-head m false e es v p = absurd (false≢true p)
 
 valid-set : (m : ℕ) (rs : List Register) (i : ℕ) (r : Register)
-    → (r .filled ≡ true → Valid m (r .edge)) → AllValid m (edgesOf rs) → AllValid m (edgesOf (set rs i r))
+    → (occupied r ≡ true → Valid m (r .edge)) → AllValid m (edgesOf rs) → AllValid m (edgesOf (set rs i r))
 unfolding edgesOf
 valid-set m [] i r v w = tt
-valid-set m (x ∷ rs) zero r v w = valid-cons m (r .filled) (r .edge) (edgesOf rs) v (valid-tail m (x .filled) (x .edge) (edgesOf rs) w)
+valid-set m (x ∷ rs) zero r v w = valid-cons m (occupied r) (r .edge) (edgesOf rs) v (valid-tail m (occupied x) (x .edge) (edgesOf rs) w)
 valid-set m (x ∷ rs) (suc i) r v w =
-    valid-cons m (x .filled) (x .edge) (edgesOf (set rs i r)) (valid-head m (x .filled) (x .edge) (edgesOf rs) w)
-    (valid-set m rs i r v (valid-tail m (x .filled) (x .edge) (edgesOf rs) w))
+    valid-cons m (occupied x) (x .edge) (edgesOf (set rs i r)) (valid-head m (occupied x) (x .edge) (edgesOf rs) w)
+    (valid-set m rs i r v (valid-tail m (occupied x) (x .edge) (edgesOf rs) w))
 
 pub registered-put : {m : ℕ} {rs : List Register} (i : ℕ) {e : Edge} → Registered m rs → Valid m e → Registered m (set rs i (filledWith e))
 registered-put {m} {rs} i {e} g v =
@@ -145,9 +150,9 @@ registered-more {m} {rs} n p g = record { sixteen = g .sixteen; valid = all-more
 pub holds-kept : {d m : ℕ} {ts us : Set d} (rs : List Register) → m ≤ length ts → AllValid m (edgesOf rs) → Grown ts us → holdsAll us rs ≡ holdsAll ts rs
 unfolding holdsAll holds edgesOf
 holds-kept [] p v g = refl
-holds-kept {m = m} {ts} {us} (r ∷ rs) p v g = go (r .filled) refl v (holds-kept rs p (valid-tail m (r .filled) (r .edge) (edgesOf rs) v) g)
+holds-kept {m = m} {ts} {us} (r ∷ rs) p v g = go (occupied r) refl v (holds-kept rs p (valid-tail m (occupied r) (r .edge) (edgesOf rs) v) g)
   where
-    go : (b : Bool) → r .filled ≡ b → AllValid m (cond b (r .edge ∷ edgesOf rs) (edgesOf rs)) → holdsAll us rs ≡ holdsAll ts rs
+    go : (b : Bool) → occupied r ≡ b → AllValid m (cond b (r .edge ∷ edgesOf rs) (edgesOf rs)) → holdsAll us rs ≡ holdsAll ts rs
         → holds us r ∷ holdsAll us rs ≡ holds ts r ∷ holdsAll ts rs
     go true q v e = rw (q, edge-kept p (v .0) g) (ap (λ l. some (edgeIn ts (r .edge)) ∷ l) e)
     go false q v e = rw q (ap (λ l. none ∷ l) e)

@@ -13,25 +13,25 @@ use Rattle.diagram.specs.Tensor.{scale}
 use Rattle.diagram.specs.Tally.{Set}
 use Rattle.diagram.specs.Meaning.{tensorAt, edgeIn}
 use Rattle.diagram.specs.Reaching.{AllMarked, AllValid}
-use Rattle.diagram.specs.Registers.{emptyRegister, filledWith, holds, holdsAll, weightsOf, edgesOf, Registered}
+use Rattle.diagram.specs.Registers.{occupied, emptyRegister, filledWith, holds, holdsAll, weightsOf, edgesOf, Registered}
 use Rattle.diagram.specs.declared.registers.Register.{Register}
 
 -- a filled register with its node renumbered
 unfoldable pub renumber : (ℕ → ℕ) → Register → Register
-renumber g r = cond (r .filled) (record { filled = true; edge = record { weight = r .edge .weight; node = g (r .edge .node) } }) r
+renumber g r = cond (occupied r) (record { filled = 1; edge = record { weight = r .edge .weight; node = g (r .edge .node) } }) r
 
-pub renumber-filled : (g : ℕ → ℕ) {n : ℕ} (r : Register) → r .filled ≡ true → n ≡ g (r .edge .node)
+pub renumber-filled : (g : ℕ → ℕ) {n : ℕ} (r : Register) → occupied r ≡ true → n ≡ g (r .edge .node)
     → filledWith (record { weight = r .edge .weight; node = n }) ≡ renumber g r
 unfolding renumber
 renumber-filled g r f e = rw (f, e)
 
-pub renumber-empty : (g : ℕ → ℕ) (r : Register) → r .filled ≡ false → r ≡ renumber g r
+pub renumber-empty : (g : ℕ → ℕ) (r : Register) → occupied r ≡ false → r ≡ renumber g r
 unfolding renumber
 renumber-empty g r f = rw f
 
 renumber-weight : (g : ℕ → ℕ) (r : Register) → renumber g r .edge .weight ≡ r .edge .weight
 unfolding renumber
-renumber-weight g r = go (r .filled)
+renumber-weight g r = go (occupied r)
   where
     go : (b : Bool) → cond b (filledWith (record { weight = r .edge .weight; node = g (r .edge .node) })) r .edge .weight ≡ r .edge .weight
     go true = refl
@@ -102,15 +102,15 @@ pub renumber-ext : (g h : ℕ → ℕ) (a : ℕ → ℕ) (m : ℕ) (rs : List Re
     → ((n : ℕ) → n ≤ m → (n ≢ 0 → a n ≢ 0) → g n ≡ h n) → renumberAll g rs ≡ renumberAll h rs
 unfolding renumberAll renumber edgesOf
 renumber-ext g h a m [] v p e = refl
-renumber-ext g h a m (r ∷ rs) v p e = go (r .filled) refl v p (renumber-ext g h a m rs)
+renumber-ext g h a m (r ∷ rs) v p e = go (occupied r) refl v p (renumber-ext g h a m rs)
   where
-    go : (b : Bool) → r .filled ≡ b → AllValid m (cond b (r .edge ∷ edgesOf rs) (edgesOf rs)) → AllMarked a (cond b (r .edge ∷ edgesOf rs) (edgesOf rs))
+    go : (b : Bool) → occupied r ≡ b → AllValid m (cond b (r .edge ∷ edgesOf rs) (edgesOf rs)) → AllMarked a (cond b (r .edge ∷ edgesOf rs) (edgesOf rs))
         → (AllValid m (edgesOf rs) → AllMarked a (edgesOf rs) → ((n : ℕ) → n ≤ m → (n ≢ 0 → a n ≢ 0) → g n ≡ h n) → renumberAll g rs ≡ renumberAll h rs)
         → renumber g r ∷ renumberAll g rs ≡ renumber h r ∷ renumberAll h rs
     go true q v p ih =
         let one : g (r .edge .node) ≡ h (r .edge .node) = e (r .edge .node) (v .0 .within) (p .0) in
-        rw (q, one) (ap (λ l. record { filled = true; edge = record { weight = r .edge .weight; node = h (r .edge .node) } } ∷ l) (ih (v .1) (p .1) e))
-    go false q v p ih = rw q (ap (λ l. record { filled = false; edge = r .edge } ∷ l) (ih v p e))
+        rw (q, one) (ap (λ l. record { filled = 1; edge = record { weight = r .edge .weight; node = h (r .edge .node) } } ∷ l) (ih (v .1) (p .1) e))
+    go false q v p ih = rw q (ap (λ l. r ∷ l) (ih v p e))
 
 -- where the new numbers have the old tensors, the registers hold what they held
 module _ {d : ℕ} (ts us : Set d) (g : ℕ → ℕ) (a : ℕ → ℕ) (m k : ℕ)
@@ -119,26 +119,26 @@ module _ {d : ℕ} (ts us : Set d) (g : ℕ → ℕ) (a : ℕ → ℕ) (m k : �
   pub renumber-holds : (rs : List Register) → AllValid m (edgesOf rs) → AllMarked a (edgesOf rs) → holdsAll us (renumberAll g rs) ≡ holdsAll ts rs
   unfolding renumberAll renumber edgesOf holdsAll holds edgeIn
   renumber-holds [] v p = refl
-  renumber-holds (r ∷ rs) v p = go (r .filled) refl v p (renumber-holds rs)
+  renumber-holds (r ∷ rs) v p = go (occupied r) refl v p (renumber-holds rs)
     where
-      go : (b : Bool) → r .filled ≡ b → AllValid m (cond b (r .edge ∷ edgesOf rs) (edgesOf rs)) → AllMarked a (cond b (r .edge ∷ edgesOf rs) (edgesOf rs))
+      go : (b : Bool) → occupied r ≡ b → AllValid m (cond b (r .edge ∷ edgesOf rs) (edgesOf rs)) → AllMarked a (cond b (r .edge ∷ edgesOf rs) (edgesOf rs))
           → (AllValid m (edgesOf rs) → AllMarked a (edgesOf rs) → holdsAll us (renumberAll g rs) ≡ holdsAll ts rs)
           → holds us (renumber g r) ∷ holdsAll us (renumberAll g rs) ≡ holds ts r ∷ holdsAll ts rs
       go true q v p ih =
           rw q (ap₂ (λ T l. some (scale (toWeight (r .edge .weight)) T) ∷ l) (kept (r .edge .node) (v .0 .within) (p .0)) (ih (v .1) (p .1)))
-      go false q v p ih = rw q (ap (λ l. none ∷ l) (ih v p))
+      go false q v p ih = rw (q, q) (ap (λ l. none ∷ l) (ih v p))
 
   renumber-valid : (rs : List Register) → AllValid m (edgesOf rs) → AllValid k (edgesOf (renumberAll g rs))
   unfolding renumberAll renumber edgesOf
   renumber-valid [] v = tt
-  renumber-valid (r ∷ rs) v = go (r .filled) refl v (renumber-valid rs)
+  renumber-valid (r ∷ rs) v = go (occupied r) refl v (renumber-valid rs)
     where
-      go : (b : Bool) → r .filled ≡ b → AllValid m (cond b (r .edge ∷ edgesOf rs) (edgesOf rs)) → (AllValid m (edgesOf rs) → AllValid k (edgesOf (renumberAll g rs)))
+      go : (b : Bool) → occupied r ≡ b → AllValid m (cond b (r .edge ∷ edgesOf rs) (edgesOf rs)) → (AllValid m (edgesOf rs) → AllValid k (edgesOf (renumberAll g rs)))
           → AllValid k (edgesOf (renumber g r ∷ renumberAll g rs))
       go true q v ih =
           rw q
           ((record { small = v .0 .small; within = within (r .edge .node) (v .0 .within); zero = λ z. (let n : r .edge .node ≡ 0 = v .0 .zero z in rw n zeroed) }), ih (v .1))
-      go false q v ih = rw q (ih v)
+      go false q v ih = rw (q, q) (ih v)
 
   pub renumber-registered : (rs : List Register) → Registered m rs → Registered k (renumberAll g rs)
   renumber-registered rs r = record { sixteen = all-length g rs ∙ r .sixteen; valid = renumber-valid rs (r .valid) }

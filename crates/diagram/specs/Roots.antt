@@ -14,7 +14,7 @@ use Rattle.diagram.specs.Node.{nodeAt, put-node}
 use Rattle.diagram.specs.Compact.{Closed}
 use Rattle.diagram.specs.Mark.{Marked, Marks, Spread}
 use Rattle.diagram.specs.Reaching.{AllMarked, AllValid}
-use Rattle.diagram.specs.Registers.{edgesOf, edges-append, emptyRegister}
+use Rattle.diagram.specs.Registers.{occupied, edgesOf, edges-append, emptyRegister}
 use Rattle.diagram.specs.declared.node.Edge.{Edge}
 use Rattle.diagram.specs.declared.registers.Register.{Register}
 
@@ -77,11 +77,11 @@ rooted-edge {count} {es} {s₀} {s} {s'} e r m = record {
 pub record Root (x : Register) (s s' : List ℕ) : Type 0 where
   pub on : (count : ℕ) (es : List Edge) (s₀ : List ℕ) → Rooted count es s₀ s → Rooted count (es ++ edgesOf (x ∷ [])) s₀ s'
 
-pub root-empty : (x : Register) (s : List ℕ) → x .filled ≡ false → Root x s s
+pub root-empty : (x : Register) (s : List ℕ) → occupied x ≡ false → Root x s s
 unfolding edgesOf
 root-empty x s e = record { on = λ count es s₀ r. rw (e, append-nil es) r }
 
-pub root-filled : (x : Register) (s s' : List ℕ) → x .filled ≡ true → Marks s s' (x .edge .node) → Root x s s'
+pub root-filled : (x : Register) (s s' : List ℕ) → occupied x ≡ true → Marks s s' (x .edge .node) → Root x s s'
 unfolding edgesOf
 root-filled x s s' e m = record { on = λ count es s₀ r. rw e (rooted-edge (x .edge) r m) }
 

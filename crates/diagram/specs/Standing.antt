@@ -18,7 +18,7 @@ use Rattle.diagram.specs.Steps.{done-count, sets-grown}
 use Rattle.diagram.specs.Cache.{Remembers, remembers-nothing, remembers-grown}
 use Rattle.diagram.specs.Operation.{Worked, Works, works-done, works-over}
 use Rattle.diagram.specs.Restore.{Fresh, Left, Restored, failed-left}
-use Rattle.diagram.specs.Registers.{emptyRegister, emptied, filledWith, heldBy, Reads, Registered}
+use Rattle.diagram.specs.Registers.{occupied, emptyRegister, emptied, filledWith, heldBy, Reads, Registered}
 use Rattle.diagram.specs.Registers.{registered-none, registered-put, registered-clear, registered-more, register-valid, holds, holdsAll, holds-at, holds-kept}
 use Rattle.diagram.specs.Collecting.{Collectable, Collected}
 use Rattle.diagram.specs.declared.node.Edge.{Edge}
@@ -103,9 +103,9 @@ isEdge held.Empty = false
 pub read-valid : {m : ℕ} {rs : List Register} {i : ℕ} {e : Edge} (h : Held)
     → Registered m rs → i < 16 → Reads rs i h → h ≡ held.Edge e → Valid m e
 unfolding heldBy edgeOf isEdge
-read-valid {m} {rs} {i} {e} h g p r q = go (getD rs i emptyRegister .filled) refl (sym q ∙ r .is)
+read-valid {m} {rs} {i} {e} h g p r q = go (occupied (getD rs i emptyRegister)) refl (sym q ∙ r .is)
   where
-    go : (b : Bool) → getD rs i emptyRegister .filled ≡ b → held.Edge e ≡ cond b (held.Edge (getD rs i emptyRegister .edge)) held.Empty → Valid m e
+    go : (b : Bool) → occupied (getD rs i emptyRegister) ≡ b → held.Edge e ≡ cond b (held.Edge (getD rs i emptyRegister .edge)) held.Empty → Valid m e
     go true f k = subst (Valid m) (sym (ap edgeOf k)) (register-valid m rs i (g .valid) (omega (arith, g .sixteen)) f)
     go false f k = absurd (false≢true (sym (ap isEdge k)))
 
@@ -116,7 +116,7 @@ heldTensor ts held.Empty = none
 
 pub holds-read : {d : ℕ} (ts : Set d) {rs : List Register} {i : ℕ} {h : Held} → Reads rs i h → getD (holdsAll ts rs) i none ≡ heldTensor ts h
 unfolding heldBy holds
-holds-read ts {rs} {i} {h} r = holds-at ts rs i ∙ go (getD rs i emptyRegister .filled) ∙ ap (heldTensor ts) (sym (r .is))
+holds-read ts {rs} {i} {h} r = holds-at ts rs i ∙ go (occupied (getD rs i emptyRegister)) ∙ ap (heldTensor ts) (sym (r .is))
   where
     go : (b : Bool) → cond b (some (edgeIn ts (getD rs i emptyRegister .edge))) none
         ≡ heldTensor ts (cond b (held.Edge (getD rs i emptyRegister .edge)) held.Empty)

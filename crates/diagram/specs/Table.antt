@@ -4,29 +4,27 @@ use mathlib.Core.Path.{_≡_, ap, sym, _∙_}
 use mathlib.Core.Bool.{Bool, true, false}
 use mathlib.Core.Logic.{_≢_}
 use mathlib.Core.List.{List}
-use Prim.Native.Nat.{ℕ, _+_, _*_, _/_, _%_, _≤_, _<_, _-_}
-use native.Mathlib.Nat.{mod-lt}
+use Prim.Native.Nat.{ℕ, _+_, _*_, _≤_, _<_, _-_}
 use native.Mathlib.Omega.{arith}
 use native.Mathlib.Decide.{decLe}
+use lib.Bits.{bitAnd, and-le-r}
 use lib.ListN.{length}
 use Rattle.diagram.specs.Last.{last, last-is}
 use Rattle.diagram.specs.Node.{nodeAt, headAt, nextAt}
 use Rattle.diagram.specs.Told.{Told, told-true, told-false}
 use Rattle.diagram.specs.declared.node.Node.{Node}
 
--- a number that differs in its middle bits for most nodes
+-- a number that differs in its lower bits for most nodes
 unfoldable pub mix : Node → ℕ
-mix x =
-    (x .index * 2654435761 + x .low .weight * 2246822519 + x .low .node * 3266489917 + x .high .weight * 668265263 + x .high .node * 374761393)
-    / 65536
+mix x = x .index * 40503 + x .low .weight * 977 + x .low .node + x .high .weight * 2741 + x .high .node * 5
 
 -- the bucket of a node, of k buckets
 unfoldable pub hash : ℕ → Node → ℕ
-hash k x = mix x % k
+hash k x = bitAnd (mix x) (k - 1)
 
 pub hash-lt : (k : ℕ) (x : Node) → 1 ≤ k → hash k x < k
 unfolding hash
-hash-lt k x h = mod-lt (mix x) h
+hash-lt k x h = omega (arith, and-le-r (mix x) (k - 1))
 
 -- the bucket of the n-th of the nodes f. Shut, so that `rw` finds `nodeAt s` in `hashOf k (nodeAt s)`
 unfoldable pub hashOf : ℕ → (ℕ → Node) → ℕ → ℕ

@@ -59,7 +59,7 @@ fn packed(key: Key) -> u64
     n * 4294967296 + left * 65536 + right
 }
 
-// The entry of a key, one of so many: odd factors spread the nodes over them.
+// The entry of a key, one of so many. Close nodes have close entries, as in the unique table.
 fn place(slots: usize, key: Key) -> usize
     requires { ⌜ (1 ≤ slots) × Narrow key ⌝ }
     ensures { λ i. ⌜ i < slots ⌝ }
@@ -67,7 +67,7 @@ fn place(slots: usize, key: Key) -> usize
     let left = key.left;
     let right = key.right;
     let arg = narrow(key.arg);
-    let m = left * 40503 + right * 30011 + arg * 977;
+    let m = left * 5 + right * 3 + arg * 977;
     m % slots
 }
 

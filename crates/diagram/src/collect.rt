@@ -5,7 +5,6 @@ use crate::make::State;
 use crate::mark;
 use crate::registers::Registers;
 use crate::restore;
-ghost use mathlib.Core.Path.{_≡_};
 ghost use Prim.Native.Nat.{_*_, _≤_, _<_};
 ghost use lib.ListN.{length};
 ghost use Rattle.diagram.specs.Node.{nodeAt};
@@ -37,12 +36,13 @@ fn sweep(store: &mut [u8], count: usize, registers: Registers) -> Swept
     }
 }
 
-// Fewer buckets for fewer nodes, so that the next table costs in proportion to the nodes.
+// Fewer buckets for far fewer nodes, so that the next table costs in proportion to the nodes; some to spare, since the next gate makes about
+// as many nodes again.
 fn fewer(count: usize, buckets: usize) -> usize
     ensures { λ r. ⌜ (1 ≤ buckets → (1 ≤ r) × (r ≤ buckets)) ⌝ }
 {
     let mut b = buckets;
-    while count < b / 2 {
+    while count < b / 8 {
         b = b / 2;
     }
     b

@@ -8,11 +8,11 @@ use crate::registers::Registers;
 ghost use mathlib.Core.Path.{_≡_};
 ghost use mathlib.Core.Bool.{true};
 ghost use mathlib.Core.Logic.{_≢_};
-ghost use Prim.Native.Nat.{ℕ, _+_, _*_, _-_, _≤_, _<_};
+ghost use Prim.Native.Nat.{_+_, _*_, _-_, _≤_, _<_};
 ghost use lib.ListN.{length};
 ghost use Rattle.diagram.specs.Fields.{field};
 ghost use Rattle.diagram.specs.Node.{Narrow, Within, nodeAt};
-ghost use Rattle.diagram.specs.Compact.{Children, Closed, forward as forwarded, shifted, renumbered, Compacting, Stepped, Compacted};
+ghost use Rattle.diagram.specs.Compact.{Children, Closed, forward as forwarded, shifted, renumbered, Stepped, Compacted};
 ghost use Rattle.diagram.specs.Registers.{Registered};
 ghost use Rattle.diagram.specs.Renumber.{renumber as renumberedBy, renumberAll};
 
@@ -80,14 +80,14 @@ pub fn compact(s: &mut [u8], count: usize) -> usize
 
 // A register with its node's new number.
 fn moved(s: &[u8], r: Register) -> Register
-    requires { ⌜ (r .filled ≡ true → 16 * r .edge .node ≤ length (now s)) ⌝ }
+    requires { ⌜ (r .filled ≡ 1 → 16 * r .edge .node ≤ length (now s)) ⌝ }
     ensures { λ x. ⌜ x ≡ renumberedBy (forwarded (now (s .entry))) r ⌝ }
 {
-    if r.filled {
+    if r.filled == 1 {
         let weight = r.edge.weight;
         let node = forward(s, r.edge.node);
         return Register {
-            filled: true,
+            filled: 1,
             edge: Edge { weight, node },
         };
     }

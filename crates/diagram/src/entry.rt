@@ -9,7 +9,7 @@ ghost use lib.ListN.{getD};
 ghost use Rattle.field.specs.Code.{Stands};
 ghost use Rattle.diagram.specs.Tensor.{bits, middle, fresh};
 ghost use Rattle.diagram.specs.Gates.{bit as bitOf, entry as entryOf};
-ghost use Rattle.diagram.specs.Entry.{Allowed, uses as usesOf};
+ghost use Rattle.diagram.specs.Entry.{Allowed};
 
 fn bit(v: u64, k: usize) -> usize
     requires { ⌜ k < 64 ⌝ }
@@ -70,18 +70,4 @@ pub(crate) fn entry(g: Gate, v: u64) -> u64
         ),
         _ => single(gate::matrix(g), a, v),
     }
-}
-
-// Does the gate own index k, as a middle or fresh index of its qubits?
-pub(crate) fn uses(g: Gate, k: usize) -> bool
-    ensures { λ r. ⌜ r ≡ usesOf g k ⌝ }
-{
-    let q = k / 3;
-    if k % 3 == 0 {
-        return false;
-    }
-    if q == gate::first(g) {
-        return true;
-    }
-    q == gate::second(g)
 }

@@ -9,8 +9,8 @@ ghost use Rattle.diagram.specs.Make.{Stored, Makes};
 // What goes with the store: its nodes and buckets, and the epoch of the results that are remembered.
 pub struct State {
     pub count: usize,
-    pub buckets: usize,
     pub epoch: u64,
+    pub buckets: usize,
 }
 
 // The node's number, and the state then; or there is no room for it.

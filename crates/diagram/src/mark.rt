@@ -65,10 +65,10 @@ fn unmark(s: &mut [u8], count: usize)
 
 // Marks the node of a filled register.
 fn root(s: &mut [u8], r: Register)
-    requires { ⌜ (r .filled ≡ true → 16 * r .edge .node ≤ length (now s)) ⌝ }
+    requires { ⌜ (r .filled ≡ 1 → 16 * r .edge .node ≤ length (now s)) ⌝ }
     ensures { λ _. ⌜ Root r (now (s .entry)) (now (s .exit)) ⌝ }
 {
-    if r.filled {
+    if r.filled == 1 {
         mark(s, r.edge.node);
     }
 }

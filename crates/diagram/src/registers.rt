@@ -5,8 +5,9 @@ ghost use Prim.Native.Nat.{_<_};
 ghost use lib.ListN.{set};
 ghost use Rattle.diagram.specs.Registers.{emptyRegister, emptied, filledWith, Reads};
 
+// `filled` is 1 or 0. It is a word, since registers are copied often, and a byte among words is slow to copy.
 pub struct Register {
-    pub filled: bool,
+    pub filled: u64,
     pub edge: Edge,
 }
 
@@ -19,10 +20,7 @@ pub fn empty() -> Registers
     ensures { λ r. ⌜ r .all ≡ emptied ⌝ }
 {
     let edge = Edge { weight: 0, node: 0 };
-    let none = Register {
-        filled: false,
-        edge,
-    };
+    let none = Register { filled: 0, edge };
     Registers { all: [none; 16] }
 }
 
@@ -37,7 +35,7 @@ pub fn get(registers: Registers, i: usize) -> Held
     ensures { λ r. ⌜ Reads (registers .all) i r ⌝ }
 {
     let r = registers.all[i];
-    if r.filled {
+    if r.filled == 1 {
         let e = r.edge;
         return Held::Edge(e);
     }
@@ -50,7 +48,7 @@ pub fn put(registers: Registers, i: usize, edge: Edge) -> Registers
     ensures { λ r. ⌜ r .all ≡ set (registers .all) i (filledWith edge) ⌝ }
 {
     let mut next = registers;
-    let r = Register { filled: true, edge };
+    let r = Register { filled: 1, edge };
     next.all[i] = r;
     next
 }
@@ -62,10 +60,7 @@ pub fn clear(registers: Registers, i: usize) -> Registers
 {
     let mut next = registers;
     let edge = Edge { weight: 0, node: 0 };
-    let r = Register {
-        filled: false,
-        edge,
-    };
+    let r = Register { filled: 0, edge };
     next.all[i] = r;
     next
 }

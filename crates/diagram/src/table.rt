@@ -7,17 +7,18 @@ ghost use Prim.Native.Nat.{_≤_, _<_};
 ghost use Rattle.diagram.specs.Node.{Narrow, nodeAt};
 ghost use Rattle.diagram.specs.Table.{hash as hashed, Indexed, Found};
 
-// The bucket of a node: its parts times large odd numbers, whose sum differs in its middle bits for most nodes.
+// The bucket of a node. Nodes that are made one after the other lead to nodes with close numbers: small factors of these keep
+// their buckets close in the store. The buckets are a power of 2, so that every one is reached.
 pub(crate) fn hash(buckets: usize, x: Node) -> usize
     requires { ⌜ (1 ≤ buckets) × Narrow x ⌝ }
     ensures { λ r. ⌜ (r ≡ hashed buckets x) × (r < buckets) ⌝ }
 {
-    let m = x.index * 2654435761
-        + x.low.weight as usize * 2246822519
-        + x.low.node * 3266489917
-        + x.high.weight as usize * 668265263
-        + x.high.node * 374761393;
-    m / 65536 % buckets
+    let m = x.index * 40503
+        + x.low.weight as usize * 977
+        + x.low.node
+        + x.high.weight as usize * 2741
+        + x.high.node * 5;
+    m & (buckets - 1)
 }
 
 // The number of the node x, or 0 where there is none.

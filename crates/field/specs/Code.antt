@@ -1,10 +1,17 @@
 -- What the code's numbers stand for.
-use mathlib.Core.Path.{_≡_, refl, sym, _∙_}
-use Prim.Native.Nat.{ℕ, zero, suc, _+_, _*_, _-_, _%_, _<_}
+use mathlib.Core.Path.{_≡_, refl, ap, sym, _∙_}
+use mathlib.Core.Logic.{_≢_, inl, inr}
+use mathlib.Core.Bool.{Bool, true, false}
+use Prim.Native.Nat.{ℕ, _+_, _*_, _-_, _/_, _%_, _≤_, _<_}
+use native.Mathlib.Nat.{add-mul, suc-mul, mod-lt, div-add-mod', div-lt-iff-lt-mul, le-div-iff-mul-le, dvd-of-mod-eq-zero}
+use native.Mathlib.Numerals.{add-one}
 use native.Mathlib.Omega.{arith}
-use Rattle.field.specs.Weight.{modulus, Weight, small-mod, toWeight, 1W, plusW, timesW, negateW, onesPower, inverseW}
-use Rattle.field.specs.Ring.{weight-mod, number-weight, weight-plus, weight-times, timesW-comm, timesW-one}
-use Rattle.field.specs.Inverse.{squared, onesPower-double}
+use lib.Dec.{eqb}
+use borrow.Author.Tests.{eqb-true, eqb-false}
+use Rattle.field.specs.Weight.{modulus, Weight, small-mod, toWeight, 0W, 1W, plusW, timesW, negateW, onesPower, inverseW}
+use Rattle.field.specs.Ring.{weight-mod, number-weight, weight-zero, weight-one, weight-plus, weight-times, plusW-zero, plusW-cancel, timesW-comm, timesW-assoc, timesW-one, timesW-zero, nonzero-weight}
+use Rattle.field.specs.Prime.{prime}
+use Rattle.field.specs.Inverse.{whole, inverse, inverse-unique, inverse-one}
 
 -- the number r stands for the weight w
 pub record Stands (r : ℕ) (w : Weight) : Type 0 where
@@ -25,40 +32,102 @@ pub stands-negative : (a r : ℕ) → a < modulus → r ≡ (modulus - a) % modu
 unfolding negateW
 stands-negative a r p e = rw (number-weight a p) (stands-mod (modulus - a) r e)
 
--- squaring `left` times more gives the power 2^n of a
-pub record Squaring (n a left w : ℕ) : Type 0 where
-  pub small : w < modulus
-  pub is : squared left (toWeight w) ≡ squared n (toWeight a)
+-- f' times the inverse of w' is f times the inverse of w, and w' is less than w
+pub record Descends (f w f' w' : ℕ) : Type 0 where
+  pub small : f' < modulus
+  pub some : 1 ≤ w'
+  pub less : w' < w
+  pub is : timesW (toWeight f') (inverseW (toWeight w')) ≡ timesW (toWeight f) (inverseW (toWeight w))
 
-pub squaring-start : (n a : ℕ) → a < modulus → Squaring n a n a
-squaring-start n a p = record { small = p; is = refl }
+-- the rest is not 0, since 65537 is prime
+remainder-some : (w : ℕ) → 1 < w → w < modulus → 1 ≤ modulus % w
+remainder-some w p s = go (eqb (modulus % w) 0) refl
+  where
+    go : (b : Bool) → eqb (modulus % w) 0 ≡ b → 1 ≤ modulus % w
+    go false e = omega (arith, eqb-false (modulus % w) 0 e)
+    go true e = elim (prime w (dvd-of-mod-eq-zero w (eqb-true (modulus % w) 0 e))) [ inl q ↦ absurd (omega arith) | inr q ↦ absurd (omega arith) ]
 
-squared-step : (n : ℕ) (w : Weight) → 0 < n → squared (n - 1) (timesW w w) ≡ squared n w
-unfolding squared
-squared-step zero w p = absurd (omega arith)
-squared-step (suc n) w p = let e : suc n - 1 ≡ n = omega arith in rw e refl
+pub remainder-below : (w : ℕ) → 1 < w → modulus % w < w
+remainder-below w p = mod-lt modulus (omega arith)
 
-pub squaring-on : {n a left w : ℕ} (r : ℕ) → 0 < left → Squaring n a left w → Stands r (timesW (toWeight w) (toWeight w)) → Squaring n a (left - 1) r
-squaring-on {left = left} {w = w} r l s e = record { small = e .small; is = rw (e .is) (squared-step left (toWeight w) l ∙ s .is) }
+-- a quotient by 2 at least and 65536 at most
+pub record Quotient (q : ℕ) : Type 0 where
+  pub some : 1 ≤ q
+  pub most : q ≤ 32768
 
-pub squaring-end : {n a left w : ℕ} → left ≡ 0 → Squaring n a left w → Stands w (squared n (toWeight a))
-unfolding squared
-squaring-end {w = w} e s = record { small = s .small; is = rw e at (s .is) }
+pub quotient : (w : ℕ) → 1 < w → w < modulus → Quotient (modulus / w)
+quotient w p s =
+    let most : modulus / w < 32769 = div-lt-iff-lt-mul {k = w} (omega arith) .1 (omega arith) in
+    record { some = le-div-iff-mul-le {k = w} (omega arith) .1 (omega arith); most = omega arith }
 
--- r stands for the power 2^n - 1 of a
-pub record Powered (n a r : ℕ) : Type 0 where
-  pub stands : Stands r (onesPower n (toWeight a))
+-- m times w is w', so the inverse of w is m times that of w'
+descended : {f w f' w' : ℕ} (m : ℕ) → 1 ≤ w → w < modulus → 1 ≤ w' → w' < w → toWeight (m * w) ≡ toWeight w'
+    → Stands f' (timesW (toWeight f) (toWeight m)) → Descends f w f' w'
+descended {f} {w} {f'} {w'} m p s p' l e t =
+    let n = nonzero-weight w s (λ z. omega arith) in
+    let n' = nonzero-weight w' (omega arith) (λ z. omega arith) in
+    let one : timesW (timesW (toWeight m) (inverseW (toWeight w'))) (toWeight w) ≡ 1W =
+    ap (λ x. timesW x (toWeight w)) (timesW-comm (toWeight m) (inverseW (toWeight w'))) ∙ timesW-assoc (inverseW (toWeight w')) (toWeight m) (toWeight w)
+    ∙ ap (timesW (inverseW (toWeight w'))) (weight-times m w ∙ e) ∙ inverse n' in
+    record {
+      small = t .small;
+      some = p';
+      less = l;
+      is = ap (λ x. timesW x (inverseW (toWeight w'))) (t .is) ∙ timesW-assoc (toWeight f) (toWeight m) (inverseW (toWeight w'))
+          ∙ ap (timesW (toWeight f)) (inverse-unique n one);
+    }
 
-pub powered-one : (a : ℕ) → a < modulus → Powered 1 a a
-unfolding onesPower
-powered-one a p =
-    record { stands = record { small = p; is = sym (timesW-comm (toWeight a) 1W ∙ timesW-one (toWeight a)) } }
+module _ {w q low : ℕ} (p : 1 < w) (s : w < modulus) (eq : q ≡ modulus / w) (er : low ≡ modulus % w) where
+  divided : q * w + low ≡ modulus
+  divided = rw (eq, er) (div-add-mod' modulus w)
 
--- doubling: the power 2^2n - 1 from the power 2^n - 1
-pub powered-double : {n a r : ℕ} (s : ℕ) → Powered n a r → Stands s (timesW (squared n (toWeight r)) (toWeight r)) → Powered (n + n) a s
-powered-double {n} {a} s p q =
-    record { stands = record { small = q .small; is = q .is ∙ rw (p .stands .is) (sym (onesPower-double n (toWeight a))) } }
+  rest : 1 ≤ low
+  rest = rw er (remainder-some w p s)
 
-pub powered-inverse : {a r : ℕ} → Powered 16 a r → Stands r (inverseW (toWeight a))
-unfolding inverseW
-powered-inverse p = p .stands
+  below : low < w
+  below = rw er (remainder-below w p)
+
+  at-most : q ≤ modulus
+  at-most = rw eq (omega (arith, quotient w p s .most))
+
+  pub descends-low : {f r : ℕ} → Stands r (timesW (toWeight f) (toWeight (modulus - q))) → Descends f w r low
+  descends-low t =
+      let all : (modulus - q) * w + q * w ≡ modulus * w = sym (add-mul (modulus - q) q w) ∙ ap (λ x. x * w) (omega (arith, at-most)) in
+      let left : plusW (toWeight ((modulus - q) * w)) (toWeight (q * w)) ≡ 0W =
+      weight-plus ((modulus - q) * w) (q * w) ∙ ap toWeight all ∙ sym (weight-times modulus w) ∙ ap (λ x. timesW x (toWeight w)) whole
+      ∙ timesW-zero (toWeight w) in
+      let right : plusW (toWeight low) (toWeight (q * w)) ≡ 0W = weight-plus low (q * w) ∙ ap toWeight (omega (arith, divided)) ∙ whole in
+      descended (modulus - q) (omega arith) s rest below (plusW-cancel _ _ (toWeight (q * w)) (left ∙ sym right)) t
+
+  pub descends-high : {f r high : ℕ} → high ≡ w - low → Stands r (timesW (toWeight f) (toWeight (q + 1))) → Descends f w r high
+  descends-high {high = high} e t =
+      let more : (q + 1) * w ≡ modulus + high = rw (add-one q, suc-mul q w) (omega (arith, divided, below)) in
+      descended (q + 1) (omega arith) s (omega (arith, below)) (omega (arith, rest, below))
+      (ap toWeight more ∙ sym (weight-plus modulus high) ∙ ap (λ x. plusW x (toWeight high)) whole ∙ plusW-zero (toWeight high)) t
+
+-- the loop: f times the inverse of w is the inverse of a
+pub record Descending (a f w : ℕ) : Type 0 where
+  pub small : f < modulus
+  pub some : 1 ≤ w
+  pub within : w < modulus
+  pub is : timesW (toWeight f) (inverseW (toWeight w)) ≡ inverseW (toWeight a)
+
+pub descending-start : {a : ℕ} → a < modulus → a ≢ 0 → Descending a 1 a
+descending-start {a} s n = record { small = omega arith; some = omega (arith, n); within = s; is = rw weight-one (timesW-one (inverseW (toWeight a))) }
+
+pub descending-on : {a f w f' w' : ℕ} → Descending a f w → Descends f w f' w' → Descending a f' w'
+descending-on p d = record { small = d .small; some = d .some; within = omega (arith, d .less, p .within); is = d .is ∙ p .is }
+
+pub descending-end : {a f w : ℕ} → Descending a f w → w ≤ 1 → Stands f (inverseW (toWeight a))
+descending-end {a} {f} {w} p h =
+    let one : w ≡ 1 = omega (arith, p .some) in
+    record {
+      small = p .small;
+      is = sym (timesW-one (toWeight f)) ∙ timesW-comm 1W (toWeight f)
+          ∙ ap (timesW (toWeight f)) (sym (ap (λ x. inverseW (toWeight x)) one ∙ ap inverseW weight-one ∙ inverse-one)) ∙ p .is;
+    }
+
+-- 0 to any power is 0
+pub stands-inverse-zero : {a : ℕ} → a ≡ 0 → Stands 0 (inverseW (toWeight a))
+unfolding inverseW onesPower
+stands-inverse-zero e = rw (e, weight-zero) record { small = omega arith; is = weight-zero ∙ sym (timesW-zero _) }

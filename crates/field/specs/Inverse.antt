@@ -5,7 +5,7 @@ use mathlib.Core.Path.{_≡_, refl, ap, sym, _∙_}
 use mathlib.Core.Bool.{Bool, true, false, _&&_}
 use Prim.Native.Nat.{ℕ, zero, suc, _+_, _*_, _%_, _/_, _≤_, _<_}
 use native.Mathlib.Omega.{arith}
-use native.Mathlib.Nat.{mod-lt, div-add-mod', div-lt-iff-lt-mul, le-div-iff-mul-le, zero-add, suc-add}
+use native.Mathlib.Nat.{mod-lt, div-add-mod', div-lt-iff-lt-mul, le-div-iff-mul-le}
 use lib.Dec.{eqb, leb}
 use borrow.Author.Tests.{eqb-true, eqb-false, leb-true, leb-false}
 use Rattle.field.specs.Weight.{modulus, Weight, toWeight, 0W, 1W, plusW, timesW, sameW, Nonzero, onesPower, inverseW}
@@ -48,7 +48,7 @@ allOne-at (suc n) w e p q =
 
 -- the power 65536 of each number above 256
 
-whole : toWeight modulus ≡ 0W
+pub whole : toWeight modulus ≡ 0W
 unfolding toWeight 0W
 whole = weight-path refl
 
@@ -165,30 +165,3 @@ inverse-one = sym (inverse-unique one-nonzero (timesW-one 1W))
 pub inverse-times : {c f : Weight} → Nonzero c → Nonzero f → timesW (inverseW (timesW c f)) c ≡ inverseW f
 inverse-times {c} {f} n m =
     inverse-unique m (timesW-assoc (inverseW (timesW c f)) c f ∙ inverse (times-nonzero n m))
-
--- the power 2^(n + n) - 1 from the power 2^n - 1
-onesPower-more : (m n : ℕ) (w : Weight) → onesPower (m + n) w ≡ timesW (onesPower m w) (onesPower n (squared m w))
-unfolding onesPower squared
-onesPower-more zero n w = rw (zero-add n) (sym (timesW-one (onesPower n w)))
-onesPower-more (suc m) n w =
-    rw (suc-add m n)
-    (ap (timesW w) (onesPower-more m n (timesW w w))
-    ∙ sym (timesW-assoc w (onesPower m (timesW w w)) (onesPower n (squared m (timesW w w)))))
-
-onesPower-mul : (n : ℕ) (v w : Weight) → onesPower n (timesW v w) ≡ timesW (onesPower n v) (onesPower n w)
-unfolding onesPower
-onesPower-mul zero v w = sym (timesW-one 1W)
-onesPower-mul (suc n) v w =
-    ap (timesW (timesW v w)) (ap (onesPower n) (timesW-medial v w v w) ∙ onesPower-mul n (timesW v v) (timesW w w))
-    ∙ timesW-medial v w (onesPower n (timesW v v)) (onesPower n (timesW w w))
-
-onesPower-squared : (m n : ℕ) (w : Weight) → onesPower n (squared m w) ≡ squared m (onesPower n w)
-unfolding squared
-onesPower-squared zero n w = refl
-onesPower-squared (suc m) n w = onesPower-squared m n (timesW w w) ∙ ap (squared m) (onesPower-mul n w w)
-
-pub onesPower-double : (n : ℕ) (w : Weight) → onesPower (n + n) w ≡ timesW (squared n (onesPower n w)) (onesPower n w)
-onesPower-double n w =
-    onesPower-more n n w
-    ∙ ap (timesW (onesPower n w)) (onesPower-squared n n w)
-    ∙ timesW-comm (onesPower n w) (squared n (onesPower n w))

@@ -2,8 +2,7 @@
 ghost use mathlib.Core.Path.{_≡_};
 ghost use Prim.Native.Nat.{_%_, _≤_, _<_};
 ghost use Rattle.field.specs.Weight.{modulus, toWeight, plusW, timesW, negateW, inverseW};
-ghost use Rattle.field.specs.Inverse.{squared};
-ghost use Rattle.field.specs.Code.{Stands};
+ghost use Rattle.field.specs.Code.{Stands, Descends};
 
 pub fn add(a: u64, b: u64) -> u64
     requires { ⌜ (a < modulus) × (b < modulus) ⌝ }
@@ -41,35 +40,40 @@ pub fn neg(a: u64) -> u64
     if a == 0 { 0 } else { 65537 - a }
 }
 
-// `a` squared `n` times.
-fn square(a: u64, n: usize) -> u64
-    requires { ⌜ a < modulus ⌝ }
-    ensures { λ r. ⌜ Stands r (squared n (toWeight a)) ⌝ }
+// On the way to an inverse: what is looked for is `factor` times the inverse of `rest`.
+struct Descent {
+    factor: u64,
+    rest: u64,
+}
+
+// 65537 is q times the rest and `low`, or q + 1 times the rest less `high`: the rest's inverse is -q times that of `low`, and q + 1 times that of
+// `high`. The smaller is gone on with.
+fn descend(d: Descent) -> Descent
+    requires { ⌜ (d .factor < modulus) × ((1 < d .rest) × (d .rest < modulus)) ⌝ }
+    ensures { λ r. ⌜ Descends (d .factor) (d .rest) (r .factor) (r .rest) ⌝ }
 {
-    let mut left = n;
-    let mut w = a;
-    while 0 < left {
-        w = mul(w, w);
-        left -= 1;
+    let q = 65537 / d.rest;
+    let low = 65537 % d.rest;
+    let high = d.rest - low;
+    if low < high {
+        let factor = mul(d.factor, 65537 - q);
+        return Descent { factor, rest: low };
     }
-    w
+    let factor = mul(d.factor, q + 1);
+    Descent { factor, rest: high }
 }
 
-// From the power 2^n - 1 of a weight, its power 2^2n - 1.
-fn double(w: u64, n: usize) -> u64
-    requires { ⌜ w < modulus ⌝ }
-    ensures { λ r. ⌜ Stands r (timesW (squared n (toWeight w)) (toWeight w)) ⌝ }
-{
-    mul(square(w, n), w)
-}
-
-// The power 65535 = 2^16 - 1, which is the inverse of a nonzero weight, in 19 products.
+// The inverse of a nonzero weight, and 0 for 0. Most weights of a diagram are 1, and take no step; others take 11 at most.
 pub fn inverse(a: u64) -> u64
     requires { ⌜ a < modulus ⌝ }
     ensures { λ r. ⌜ Stands r (inverseW (toWeight a)) ⌝ }
 {
-    let a2 = double(a, 1);
-    let a4 = double(a2, 2);
-    let a8 = double(a4, 4);
-    double(a8, 8)
+    if a == 0 {
+        return 0;
+    }
+    let mut d = Descent { factor: 1, rest: a };
+    while 1 < d.rest {
+        d = descend(d);
+    }
+    d.factor
 }

@@ -11,7 +11,7 @@ use Rattle.diagram.specs.Tally.{Set}
 use Rattle.diagram.specs.Node.{nodeAt}
 use Rattle.diagram.specs.Listed.{listed}
 use Rattle.diagram.specs.Meaning.{tensorAt, tensors}
-use Rattle.diagram.specs.Registers.{emptyRegister, holds}
+use Rattle.diagram.specs.Registers.{occupied, emptyRegister, holds}
 use Rattle.diagram.specs.declared.registers.Register.{Register}
 use Rattle.text.specs.Text.{Bytes}
 use Rattle.text.specs.Answers.{written}
@@ -41,7 +41,7 @@ Agree A B = (v : ℕ) → v < 2 ^ indices → value A v ≡ value B v
 -- s is the store and o' the output as the session leaves them, o the output as it was lent
 pub record Agrees (s o o' : Bytes) (r : Session) (t : Run indices) : Type 0 where
   -- "The same registers are filled as in document 01's tally of the same lines."
-  pub filled : (i : ℕ) → i < 16 → registerAt r i .filled ≡ isFilled (held (t .tally) i)
+  pub filled : (i : ℕ) → i < 16 → occupied (registerAt r i) ≡ isFilled (held (t .tally) i)
   -- "Two filled registers have the same weight and node exactly when the tensors that the tally holds there agree at every assignment."
   pub same : (i j : ℕ) → i < 16 → j < 16 → (A B : Tensor indices) → held (t .tally) i ≡ some A → held (t .tally) j ≡ some B
       → ((registerAt r i .edge .weight ≡ registerAt r j .edge .weight) × (registerAt r i .edge .node ≡ registerAt r j .edge .node)) ↔ Agree A B
@@ -51,7 +51,7 @@ pub record Agrees (s o o' : Bytes) (r : Session) (t : Run indices) : Type 0 wher
   -- "The tensors of the nodes from 1 up are exactly those in the tally's set." Here even in the order put in.
   pub set : nodeTensors s (r .count) ≡ t .tally .nodes
   -- "Each filled register's weight times its node's tensor is the tensor that the tally holds there."
-  pub tensors : (i : ℕ) → i < 16 → registerAt r i .filled ≡ true
+  pub tensors : (i : ℕ) → i < 16 → occupied (registerAt r i) ≡ true
       → held (t .tally) i ≡ some (scale (toWeight (registerAt r i .edge .weight)) (tensorAt (nodeTensors s (r .count)) (registerAt r i .edge .node)))
   -- "The count of lines answered, the node count and every byte printed so far equal those of the tally .. and so does the code at the end."
   pub lines : r .lines ≡ t .answered

@@ -14,7 +14,7 @@ use Rattle.diagram.specs.ValueLaws.{agree-exactly}
 use Rattle.diagram.specs.Node.{edge-eq}
 use Rattle.diagram.specs.Meaning.{tensorAt, edgeIn, Valid}
 use Rattle.diagram.specs.Engine.{nodesOf, setOf, tensorOf, node-multiple, edge-unique}
-use Rattle.diagram.specs.Registers.{emptyRegister, holds, holdsAll, holds-at, register-valid}
+use Rattle.diagram.specs.Registers.{occupied, emptyRegister, holds, holdsAll, holds-at, register-valid}
 use Rattle.diagram.specs.Standing.{Standing}
 use Rattle.diagram.specs.declared.node.Edge.{Edge}
 use Rattle.diagram.specs.declared.make.State.{State}
@@ -36,19 +36,19 @@ module _ {c s : List ℕ} {st : State} {rs : List Register} (p : Standing c s st
   abbrev holding : ℕ → Option (Tensor indices)
   holding i = getD (holdsAll (setOf s st) rs) i none
 
-  pub same-filled : (i : ℕ) → at rs i .filled ≡ isFilled (holding i)
+  pub same-filled : (i : ℕ) → occupied (at rs i) ≡ isFilled (holding i)
   unfolding holds
-  same-filled i = sym (ap isFilled (holds-at (setOf s st) rs i) ∙ go (at rs i .filled))
+  same-filled i = sym (ap isFilled (holds-at (setOf s st) rs i) ∙ go (occupied (at rs i)))
     where
       go : (b : Bool) → isFilled (cond b (some (edgeIn (setOf s st) (at rs i .edge))) none) ≡ b
       go true = refl
       go false = refl
 
-  pub filled-tensor : (i : ℕ) → at rs i .filled ≡ true → holding i ≡ some (tensorOf s st (at rs i .edge))
+  pub filled-tensor : (i : ℕ) → occupied (at rs i) ≡ true → holding i ≡ some (tensorOf s st (at rs i .edge))
   unfolding holds tensorOf
   filled-tensor i q = holds-at (setOf s st) rs i ∙ ap (λ b. cond b (some (edgeIn (setOf s st) (at rs i .edge))) none) q
 
-  pub weight-times-node : (i : ℕ) → at rs i .filled ≡ true
+  pub weight-times-node : (i : ℕ) → occupied (at rs i) ≡ true
       → holding i ≡ some (scale (toWeight (at rs i .edge .weight)) (tensorAt (nodeTensors s (st .count)) (at rs i .edge .node)))
   unfolding tensorOf edgeIn
   weight-times-node i q = rw (node-tensors s st) (filled-tensor i q)
@@ -59,7 +59,7 @@ module _ {c s : List ℕ} {st : State} {rs : List Register} (p : Standing c s st
 
   -- a register in which the tally holds a tensor has an edge with it
   module _ (i : ℕ) (l : i < 16) {A : Tensor indices} (q : holding i ≡ some A) where
-    full : at rs i .filled ≡ true
+    full : occupied (at rs i) ≡ true
     full = same-filled i ∙ ap isFilled q
 
     is-tensor : tensorOf s st (at rs i .edge) ≡ A

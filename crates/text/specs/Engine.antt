@@ -1,5 +1,5 @@
 -- What the engine holds between two lines, read as a tally, and how a call that sets a register ends.
-use mathlib.Core.Path.{_≡_, refl, ap, sym, subst, _∙_}
+use mathlib.Core.Path.{_≡_, ap, sym, subst, _∙_}
 use mathlib.Core.List.{List}
 use Prim.Native.Nat.{ℕ, _≤_, _<_}
 use native.Mathlib.Omega.{arith}
@@ -78,36 +78,26 @@ pub record Observes (s : List ℕ) (e : Engine) (x : Call) (r : Reply) : Type 0 
 pub record Replies (e : Engine) (x : Call) (r : Reply) : Type 0 where
   pub on : (c s : List ℕ) → Standing c s (e .state) (e .registers .all) → Responds c s s e x r
 
--- an engine with these parts
-unfoldable pub partsOf : List ℕ → State → List Register → Tally indices
-partsOf s st rs = record { nodes = setOf s st; registers = holdsAll (setOf s st) rs }
-
-pub parts-of : (s : List ℕ) (e : Engine) → tallyOf s e ≡ partsOf s (e .state) (e .registers .all)
-unfolding tallyOf partsOf
-parts-of s e = refl
-
 -- the start
 
 pub started : {c s s' : List ℕ} {e : Engine} → Fresh c s s' (e .state) → e .registers .all ≡ emptied → Started c s' e
 unfolding tallyOf start holdsAll holds
 started {s' = s'} {e} f q = record { standing = standing-fresh f q; is = rw (fresh-set f, q) }
 
--- a step that was done
+-- a step that was done: register d is its edge, the others hold what they held
+settle-done : {s s' : List ℕ} {e : Engine} {t : State} {rs : Registers} (d : ℕ) {f : Step indices} {x : Edge} → Registered (e .state .count) (e .registers .all)
+    → Done s s' (e .state) t f x → rs .all ≡ set (e .registers .all) d (filledWith x)
+    → settle (most (capacity s)) d (f (setOf s (e .state))) (tallyOf s e) ≡ (Ok (t .count), tallyOf s' (record { state = t; registers = rs }))
+unfolding settle accept count tallyOf holds tensorOf
+settle-done {s} {s'} {e} {t} d {x = x} g w q =
+    let fit : length (setOf s' t) ≤ capacity s = rw (w .is) at (done-fits w) in
+    rw (w .is, le-leb _ _ fit, set-length s' t, q, holds-set (setOf s' t) (e .registers .all) d (filledWith x), holds-after s s' (e .state) t g (w .grown))
 
-module _ (s s' : List ℕ) (st t : State) (rs : List Register) (d : ℕ) (f : Step indices) (x : Edge) (g : Registered (st .count) rs) (w : Done s s' st t f x) where
-  pub settle-done : settle (most (capacity s)) d (f (setOf s st)) (partsOf s st rs) ≡ (Ok (t .count), partsOf s' t (set rs d (filledWith x)))
-  unfolding settle accept count partsOf holds tensorOf
-  settle-done =
-      let fit : length (setOf s' t) ≤ capacity s = rw (w .is) at (done-fits w) in
-      rw (w .is, le-leb _ _ fit, set-length s' t, holds-set (setOf s' t) rs d (filledWith x), holds-after s s' st t g (w .grown))
-
--- a step that did not fit
-pub settle-over : (s s₁ s' : List ℕ) (st t : State) (rs : List Register) (d : ℕ) (f : Step indices) → Over s s₁ st f → nodesOf s' t ≡ nodesOf s₁ st
-    → settle (most (capacity s)) d (f (setOf s st)) (partsOf s st rs) ≡ (No Full, partsOf s' t rs)
-unfolding settle refuse partsOf setOf
-settle-over s s₁ s' st t rs d f w q =
-    let kept : nodesOf s' t ≡ nodesOf s st = q ∙ w .kept in
-    rw (lt-leb _ _ (w .full), kept)
+-- a step that did not fit: the nodes are as before it, and the registers
+settle-over : {s s₁ : List ℕ} (s' : List ℕ) {e : Engine} (n : Engine) (d : ℕ) {f : Step indices} → Over s s₁ (e .state) f → nodesOf s' (n .state) ≡ nodesOf s₁ (e .state)
+    → n .registers .all ≡ e .registers .all → settle (most (capacity s)) d (f (setOf s (e .state))) (tallyOf s e) ≡ (No Full, tallyOf s' n)
+unfolding settle refuse tallyOf setOf
+settle-over s' n d w q r = rw (lt-leb _ _ (w .full), r, q ∙ w .kept)
 
 pub rolls-back : {c' s s' : List ℕ} {e : Engine} {st : State} {rs : Registers} {r : Reply} → Restored c' s s' (e .state) st → rs ≡ e .registers
     → Refuses (record { state = st; registers = rs }) Full r → RollsBack c' s s' e r
@@ -124,8 +114,7 @@ settles-full {c} {s} {c'} {s'} {e} {d} {m} {r} q b = record { on = on }
     on c₀ s₀ f p w = record {
       standing = rw (b .registers) (standing-restored (p .registers) (b .restored));
       small = rw (b .answer) tt;
-      is = rw (b .answer, parts-of s₀ e, parts-of s' (r .engine), b .registers)
-          (settle-over s₀ s s' (e .state) (r .engine .state) (e .registers .all) d f (works-over f m w q .over) (b .restored .kept));
+      is = rw (b .answer) (settle-over s' (r .engine) d (works-over f m w q .over) (b .restored .kept) (b .registers));
     }
 
 pub settles-put : {c s : List ℕ} {e : Engine} {d : ℕ} {m : Made} {x : Edge} {t : State} {rs : Registers} → m ≡ made.Edge x t
@@ -140,8 +129,7 @@ settles-put {c} {s} {e} {d} {m} {x} {t} {rs} q b = record { on = on }
         record {
           standing = standing-works p f m d b w q;
           small = omega (arith, n .done .held .stored .numbered);
-          is = rw (parts-of s₀ e, parts-of s (record { state = t; registers = rs }), b)
-              (settle-done s₀ s (e .state) t (e .registers .all) d f x (p .registers) (n .done));
+          is = settle-done d (p .registers) (n .done) b;
         }
 
 -- a step's answer can be settled

@@ -26,7 +26,6 @@ use Rattle.text.specs.Calls.{readLine}
 use Rattle.text.specs.VerdictRun.{qubits, Numbered, sessionCalls, Outcome, refused, ended, onward, perform, rulingOf, judged, verdictOf, verdict, outcome}
 use Rattle.text.specs.Verdict.{Reading, lists, fault, readText}
 use Rattle.text.specs.Session.{comparison, Capacity, fits, Tally, Reply, count, start, answer, accept, refuse, settle, holding, register, Run, begun, more, stopped, run, session}
-use Rattle.text.specs.declared.answer.Answer.{Answer}
 use Rattle.text.specs.declared.answer.Answer.the-variants as answers
 use Rattle.text.specs.declared.call.Refusal.the-variants.{Full, Depends}
 use Rattle.text.specs.declared.call.Refusal.{Refusal}

@@ -18,9 +18,10 @@ use Rattle.text.specs.Print.{written-none}
 use Rattle.text.specs.Verdict.{Reading, lists, fault, readText, readLines, checkedOf, SmallRuling, RangedCheck, CheckedRead, Ruled}
 use Rattle.text.specs.Lists.{items, gateItems, items-next, text-items, GoodText, good-text}
 use Rattle.text.specs.Session.{Capacity, most, answer}
-use Rattle.text.specs.VerdictRun.{Numbered, listCalls, sessionCalls, perform, rulingOf, judged, verdictOf, verdict, outcome}
+use Rattle.text.specs.VerdictRun.{listCalls, sessionCalls, perform, rulingOf, judged, verdictOf, verdict, outcome}
 use Rattle.text.specs.Engine.{tallyOf, Started, Replies}
-use Rattle.text.specs.Stage.{ruled, beyond, Lines, Listed, ListRun, ListDone}
+use Rattle.text.specs.Perform.{after}
+use Rattle.text.specs.Stage.{ruled, ruled-refused, beyond, Lines, Listed, ListRun, ListDone}
 use Rattle.text.specs.declared.answer.Answer.{Answer}
 use Rattle.text.specs.declared.answer.Answer.the-variants as answers
 use Rattle.text.specs.declared.call.Call.the-variants as call
@@ -80,12 +81,8 @@ rules {y = y} w q = record {
 
 -- the end of a session
 
-ruled-refused : (c : Capacity) (more : List Numbered) (s : List ℕ) (x : Stage) → x .refused ≡ true → No Full (x .line) ≡ ruled c more s x
-unfolding ruled
-ruled-refused c more s x q = rw q
-
 ruled-end : (c : Capacity) (s : List ℕ) (x : Stage) → x .refused ≡ false → rulingOf (answer c (call.Cmp 0 1) (tallyOf s (x .engine)) .0) ≡ ruled c [] s x
-unfolding ruled perform judged
+unfolding ruled after perform judged
 ruled-end c s x q = rw q
 
 module _ {text : Bytes} {n count : ℕ} {s c' s' : List ℕ} {a x : Stage} (w : ListRun text n 1 count s c' s' a x) where
@@ -95,7 +92,7 @@ module _ {text : Bytes} {n count : ℕ} {s c' s' : List ℕ} {a x : Stage} (w : 
       sym (w .each hs rest ls .advances .is []) ∙ ap (λ l. ruled (most (capacity s)) l s a) (append-nil (listCalls 1 n (a .line + 1) hs))
 
   pub seconds-refused : x .refused ≡ true → Seconds text n count s a (No Full (x .line))
-  seconds-refused q = record { is = λ hs rest ls. ruled-refused (most (capacity s)) [] s' x q ∙ through hs rest ls; small = tt }
+  seconds-refused q = record { is = λ hs rest ls. sym (ruled-refused (most (capacity s)) [] s' x q) ∙ through hs rest ls; small = tt }
 
   pub seconds : {r : Ruling} → length s' ≡ length s → x .refused ≡ false → Rules (x .engine) r → Seconds text n count s a r
   seconds {r} l q u = record {
@@ -137,11 +134,11 @@ module _ {text : Bytes} {n parting count : ℕ} (g : GoodText text n parting cou
 
     -- the verdict, from the stage after the first list
     whole : verdict indices (most (capacity s₁)) text ≡ ruled (most (capacity s₁)) (listCalls 1 n (length (g .first) + 2) (g .second)) s' x
-    unfolding verdict verdictOf sessionCalls ruled
+    unfolding verdict verdictOf sessionCalls ruled after
     whole = rw (g .text, ← b .is) (done .advances .is (listCalls 1 n (length (g .first) + 2) (g .second)))
 
     pub first-refused : {s : List ℕ} → length s₁ ≡ length s → x .refused ≡ true → Judges text s (No Full (x .line))
-    first-refused l q = record { is = rw (← l) (ruled-refused (most (capacity s₁)) _ s' x q ∙ sym whole); small = tt }
+    first-refused l q = record { is = rw (← l) (sym (whole ∙ ruled-refused (most (capacity s₁)) _ s' x q)); small = tt }
 
     module _ (q : x .refused ≡ false) where
       parting-next : items n (lines (drop (x .place) text)) ≡ tail
@@ -194,7 +191,7 @@ good-most c q = subst RangedCheck q (c .ranged) .1
 
 pub gives-none : {text : Bytes} {s : List ℕ} {o : Bytes} → length o < 32 → Gives text s o o (record { code = 9; bytes = 0 })
 unfolding outcome
-gives-none {o = o} h = record { code = rw (lt-ltb _ _ h); bytes = rw (lt-ltb _ _ h); output = rw (lt-ltb _ _ h) (sym (written-none o)) }
+gives-none {o = o} h = record { code = rw (lt-ltb _ _ h); bytes = rw (lt-ltb _ _ h); output = rw (lt-ltb _ _ h) (sym (written-none o 0)) }
 
 pub gives : {text : Bytes} {s : List ℕ} {o o' : Bytes} {r : Ruling} {m : ℕ} → 32 ≤ length o → Judges text s r → Ruled o r o' m
     → Gives text s o o' (record { code = 0; bytes = m })

@@ -29,7 +29,9 @@ pub mod RulingLaws
 -- laws of the tally, of a verdict's session and of what it means
 pub mod TallyLaws
 pub mod VerdictRunLaws
+pub mod GateShape
 pub mod VerdictLists
+pub mod StateSums
 pub mod ProductLaws
 pub mod VerdictMeaningLaws
 pub mod GrowSession
@@ -43,3 +45,5 @@ pub mod Qubits
 pub mod Perform
 pub mod Stage
 pub mod Judge
+-- the calls for programs in other languages
+pub mod Export

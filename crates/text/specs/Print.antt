@@ -1,14 +1,14 @@
 -- Bytes and numbers put at a place of the output, as the code puts them.
 use mathlib.Core.Path.{_≡_, refl, ap, sym, _∙_}
 use mathlib.Core.Bool.{Bool, true, false, cond}
-use mathlib.Core.List.{[], _∷_, _++_}
+use mathlib.Core.List.{[], _∷_, _++_, append-nil}
 use Prim.Native.Nat.{ℕ, zero, suc, _+_, _-_, _/_, _%_, _^_, _≤_, _<_}
 use native.Mathlib.Numerals.{add-one}
-use native.Mathlib.Nat.{pow-suc, div-lt-iff-lt-mul}
+use native.Mathlib.Nat.{add-zero, pow-suc, div-lt-iff-lt-mul}
 use native.Mathlib.Omega.{arith}
 use lib.Dec.{ltb}
 use borrow.Author.Tests.{lt-ltb, le-ltb}
-use lib.ListN.{length, take, getD, set, length-set, length-append}
+use lib.ListN.{length, take, getD, set, length-set, length-append, take-append-drop}
 use lib.Seq.{sets, sets-eq, length-sets, take-suc, take-all, length-take-le}
 use Rattle.text.specs.Text.{Bytes, LF}
 use Rattle.text.specs.Answers.{digits, decimal, written}
@@ -33,9 +33,9 @@ written-sets l at s h = sym (sets-eq s l at h)
 pub written-length : (l : Bytes) (at : ℕ) (s : Bytes) → at + length s ≤ length l → length (written l at s) ≡ length l
 written-length l at s h = rw (written-sets l at s h) (length-sets l at s)
 
-pub written-none : (l : Bytes) → written l 0 [] ≡ l
+pub written-none : (l : Bytes) (at : ℕ) → written l at [] ≡ l
 unfolding written
-written-none l = refl
+written-none l at = rw (add-zero at, append-nil (take at l)) (take-append-drop at l)
 
 pub written-then : (l : Bytes) (at : ℕ) (s t : Bytes) → at + length s + length t ≤ length l
     → written (written l at s) (at + length s) t ≡ written l at (s ++ t)

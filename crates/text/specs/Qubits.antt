@@ -1,5 +1,5 @@
 -- A gate's qubits as the code has them.
-use mathlib.Core.Path.{_≡_, refl, ap, sym, subst, _∙_}
+use mathlib.Core.Path.{_≡_, ap, sym, subst, _∙_}
 use mathlib.Core.Logic.{_≢_}
 use mathlib.Core.List.{List, [], _∷_}
 use Prim.Native.Nat.{ℕ, _+_, _*_, _^_, _%_, _≤_, _<_, min, max}
@@ -7,9 +7,8 @@ use native.Mathlib.Omega.{arith}
 use lib.Pow.{pow-lt}
 use Rattle.diagram.specs.Matrices.{first, second}
 use Rattle.diagram.specs.Mask.{one-shl}
-use Rattle.text.specs.Respond.{placed-allowed}
+use Rattle.text.specs.GateShape.{OnTwo, one, two, shape}
 use Rattle.diagram.specs.declared.gate.Gate.{Gate}
-use Rattle.diagram.specs.declared.gate.Gate.the-variants as gate
 use Rattle.text.specs.Gates.{Placed}
 use Rattle.text.specs.VerdictRun.{qubits, middles}
 use Rattle.text.specs.declared.qubits.Qubits.{Qubits}
@@ -27,50 +26,27 @@ pub record QubitsOf (g : Gate) (r : Qubits) : Type 0 where
   pub is : listed r ≡ qubits g
   pub below : Below r
 
-one-qubit : (g : Gate) → Placed 8 g → first g ≡ second g → qubits g ≡ first g ∷ []
-one-qubit (gate.X q) h e = refl
-one-qubit (gate.Y q) h e = refl
-one-qubit (gate.Z q) h e = refl
-one-qubit (gate.H q) h e = refl
-one-qubit (gate.S q) h e = refl
-one-qubit (gate.Sd q) h e = refl
-one-qubit (gate.T q) h e = refl
-one-qubit (gate.Td q) h e = refl
-one-qubit (gate.Cx p q) h e = absurd (h .1 .1 e)
-one-qubit (gate.Cz p q) h e = absurd (h .1 .1 e)
-one-qubit (gate.Sw p q) h e = absurd (h .1 .1 e)
-
-two-qubits : (g : Gate) → first g ≢ second g → qubits g ≡ min (first g) (second g) ∷ max (first g) (second g) ∷ []
-two-qubits (gate.X q) n = absurd (n refl)
-two-qubits (gate.Y q) n = absurd (n refl)
-two-qubits (gate.Z q) n = absurd (n refl)
-two-qubits (gate.H q) n = absurd (n refl)
-two-qubits (gate.S q) n = absurd (n refl)
-two-qubits (gate.Sd q) n = absurd (n refl)
-two-qubits (gate.T q) n = absurd (n refl)
-two-qubits (gate.Td q) n = absurd (n refl)
-two-qubits (gate.Cx p q) n = refl
-two-qubits (gate.Cz p q) n = refl
-two-qubits (gate.Sw p q) n = refl
-
-pair-is : (g : Gate) {p q : ℕ} (x y : ℕ) → p ≡ first g → q ≡ second g → x ≡ min p q → y ≡ max p q → p ≢ q → x ∷ y ∷ [] ≡ qubits g
-pair-is g x y e f u v n = rw (u, v, e, f) (sym (two-qubits g (λ m. n (e ∙ m ∙ sym f))))
+ordered : (g : Gate) (x y : ℕ) → OnTwo 8 g → x ≡ min (first g) (second g) → y ≡ max (first g) (second g) → QubitsOf g (Two x y)
+ordered g x y t u v = record {
+  is = rw (u, v) (sym (t .are));
+  below = (omega (arith, t .below, t .other), omega (arith, t .below, t .other));
+}
 
 module _ {g : Gate} {p q : ℕ} (h : Placed 8 g) (e : p ≡ first g) (f : q ≡ second g) where
   pub qubits-one : p ≡ q → QubitsOf g (One p)
-  qubits-one m = record { is = ap (λ x. x ∷ []) e ∙ sym (one-qubit g h (sym e ∙ m ∙ f)); below = omega (arith, e, placed-allowed g h .one) }
+  qubits-one m = elim (shape 8 g h) [
+    | one o ↦ record { is = ap (λ x. x ∷ []) e ∙ sym (o .are); below = omega (arith, e, o .below) }
+    | two t ↦ absurd (t .differ (sym e ∙ m ∙ f))
+  ]
+
+  two-of : p ≢ q → OnTwo 8 g
+  two-of n = elim (shape 8 g h) [ one o ↦ absurd (n (e ∙ sym (o .again) ∙ sym f)) | two t ↦ t ]
 
   pub qubits-below : p ≢ q → q < p → QubitsOf g (Two q p)
-  qubits-below n l = record {
-    is = pair-is g q p e f (omega arith) (omega arith) n;
-    below = (omega (arith, f, placed-allowed g h .two), omega (arith, e, placed-allowed g h .one));
-  }
+  qubits-below n l = ordered g q p (two-of n) (omega (arith, e, f)) (omega (arith, e, f))
 
   pub qubits-above : p ≢ q → p ≤ q → QubitsOf g (Two p q)
-  qubits-above n l = record {
-    is = pair-is g p q e f (omega arith) (omega arith) n;
-    below = (omega (arith, e, placed-allowed g h .one), omega (arith, f, placed-allowed g h .two));
-  }
+  qubits-above n l = ordered g p q (two-of n) (omega (arith, e, f)) (omega (arith, e, f))
 
 -- 2 to the middle index
 

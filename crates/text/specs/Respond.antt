@@ -10,7 +10,6 @@ use Rattle.diagram.specs.Tensor.{Tensor, indices, bits, value, constant, depend
 use Rattle.diagram.specs.Tally.{Step, return, sum, cont, low, build}
 use Rattle.diagram.specs.Gates.{gateTensor, unitTensor}
 use Rattle.diagram.specs.Node.{capacity, Alike}
-use Rattle.diagram.specs.Entry.{Allowed}
 use Rattle.diagram.specs.Depends.{Depended}
 use Rattle.diagram.specs.Compare.{compared, compared-says, Says, Compares}
 use Rattle.diagram.specs.Engine.{setOf, tensorOf, set-length, alike-set, alike-tensor, Does}
@@ -22,14 +21,12 @@ use Rattle.diagram.specs.declared.make.State.{State}
 use Rattle.diagram.specs.declared.join.Made.{Made}
 use Rattle.diagram.specs.declared.join.Made.the-variants as made
 use Rattle.diagram.specs.declared.gate.Gate.{Gate}
-use Rattle.diagram.specs.declared.gate.Gate.the-variants.{X, Y, Z, H, S, Sd, T, Td, Cx, Cz, Sw}
 use Rattle.diagram.specs.declared.compare.Comparison.{Comparison}
 use Rattle.diagram.specs.declared.compare.Comparison.the-variants as compare
 use Rattle.diagram.specs.declared.registers.Register.{Register}
 use Rattle.diagram.specs.declared.registers.Registers.{Registers}
 use Rattle.diagram.specs.declared.registers.Held.{Held}
 use Rattle.diagram.specs.declared.registers.Held.the-variants as held
-use Rattle.text.specs.Gates.{Placed}
 use Rattle.text.specs.Calls.{Ranged}
 use Rattle.text.specs.Answers.{Small}
 use Rattle.text.specs.Session.{most, Reply as TallyReply, count, refuse, accept, settle, holding, register, comparison, answer}
@@ -58,19 +55,6 @@ observes-as {c} p q h = responds-as q (h .on c p)
 pub replies-as : {c s : List ℕ} {e : Engine} {x y : Call} {r : Reply} → Standing c s (e .state) (e .registers .all) → y ≡ x → Replies e x r
     → Responds c s s e y r
 replies-as {c} {s} p q h = responds-as q (h .on c s p)
-
-pub placed-allowed : (g : Gate) → Placed 8 g → Allowed g
-placed-allowed (X q) p = record { one = p; two = p }
-placed-allowed (Y q) p = record { one = p; two = p }
-placed-allowed (Z q) p = record { one = p; two = p }
-placed-allowed (H q) p = record { one = p; two = p }
-placed-allowed (S q) p = record { one = p; two = p }
-placed-allowed (Sd q) p = record { one = p; two = p }
-placed-allowed (T q) p = record { one = p; two = p }
-placed-allowed (Td q) p = record { one = p; two = p }
-placed-allowed (Cx p q) r = record { one = r .0; two = r .1 .0 }
-placed-allowed (Cz p q) r = record { one = r .0; two = r .1 .0 }
-placed-allowed (Sw p q) r = record { one = r .0; two = r .1 .0 }
 
 -- an operand
 

@@ -1,6 +1,6 @@
 -- Running the lists of a verdict's text line by line, as the code does it.
 use mathlib.Core.Path.{_≡_, refl, ap, sym, subst, _∙_}
-use mathlib.Core.Bool.{true, false, cond, true≢false}
+use mathlib.Core.Bool.{true, false, true≢false}
 use mathlib.Core.List.{List, [], _∷_, _++_, append-assoc}
 use Prim.Native.Nat.{ℕ, _+_, _-_, _≤_, _<_}
 use native.Mathlib.Omega.{arith}
@@ -8,15 +8,12 @@ use lib.ListN.{length, drop}
 use Rattle.diagram.specs.Node.{capacity}
 use Rattle.diagram.specs.Standing.{Standing}
 use Rattle.diagram.specs.declared.gate.Gate.{Gate}
-use Rattle.diagram.specs.declared.gate.Gate.the-variants as gate
 use Rattle.text.specs.Text.{Bytes, LF, lines}
 use Rattle.text.specs.Split.{part, Ends, endFrom, ends-from}
-use Rattle.text.specs.Gates.{Placed}
 use Rattle.text.specs.Verdict.{itemOf, IsGate, GateRead}
 use Rattle.text.specs.Lists.{items, gateItems, gate-next}
 use Rattle.text.specs.Session.{Capacity, most}
-use Rattle.text.specs.VerdictRun.{gateCalls, Numbered, atLine, gatesCalls, listCalls, perform, judged}
-use Rattle.text.specs.Engine.{tallyOf}
+use Rattle.text.specs.VerdictRun.{gateCalls, Numbered, atLine, gatesCalls, listCalls}
 use Rattle.text.specs.Perform.{after, Extends}
 use Rattle.text.specs.declared.call.Call.{Call}
 use Rattle.text.specs.declared.call.Call.the-variants as call
@@ -33,7 +30,7 @@ stageOf r line place = record { refused = r .refused; line = line; place = place
 
 -- the verdict that is come to from a stage, where these calls follow
 unfoldable pub ruled : Capacity → List Numbered → List ℕ → Stage → Ruling
-ruled c more s x = cond (x .refused) (No Full (x .line)) (judged c (perform c more (tallyOf s (x .engine))))
+ruled c more s x = after c (x .line) more s (record { refused = x .refused; engine = x .engine })
 
 -- the calls xs were run, whatever follows
 pub record Advances (s c' s' : List ℕ) (a : Stage) (xs : List Numbered) (x : Stage) : Type 0 where
@@ -153,19 +150,6 @@ module _ {text : Bytes} {a x : Stage} {e : ℕ} {b : Run} (h : Headed text a) (n
 pub facing-gate : {text : Bytes} {m : ℕ} {a : Stage} {e : ℕ} → Facing text m a → Ends LF text (a .place) e → IsGate (itemOf m (part text (a .place) e))
 facing-gate f n = rw (n .place, f .is) tt
 
-pub placed-more : {m : ℕ} (g : Gate) → m ≤ 8 → Placed m g → Placed 8 g
-placed-more (gate.X q) l p = omega arith
-placed-more (gate.Y q) l p = omega arith
-placed-more (gate.Z q) l p = omega arith
-placed-more (gate.H q) l p = omega arith
-placed-more (gate.S q) l p = omega arith
-placed-more (gate.Sd q) l p = omega arith
-placed-more (gate.T q) l p = omega arith
-placed-more (gate.Td q) l p = omega arith
-placed-more (gate.Cx p q) l h = (omega arith, (omega arith, h .1 .1))
-placed-more (gate.Cz p q) l h = (omega arith, (omega arith, h .1 .1))
-placed-more (gate.Sw p q) l h = (omega arith, (omega arith, h .1 .1))
-
 -- the loop over a list's gate lines
 
 pub record Reached (text : Bytes) (n r count : ℕ) (a : Stage) (s₀ : List ℕ) (gs : List Gate) (rest : List Item) (s : List ℕ) (i : ℕ) (p : Stage) : Type 0 where
@@ -207,9 +191,10 @@ items-none : (rest : List Item) → gateItems [] ++ rest ≡ rest
 unfolding gateItems
 items-none rest = refl
 
-ruled-refused : (c : Capacity) (xs ys : List Numbered) (s : List ℕ) (a : Stage) → a .refused ≡ true → ruled c xs s a ≡ ruled c ys s a
-unfolding ruled
-ruled-refused c xs ys s a q = rw q
+-- nothing that follows a refusal counts
+pub ruled-refused : (c : Capacity) (more : List Numbered) (s : List ℕ) (x : Stage) → x .refused ≡ true → ruled c more s x ≡ No Full (x .line)
+unfolding after ruled
+ruled-refused c more s x q = rw q
 
 module _ {text : Bytes} {n r count : ℕ} {a : Stage} {s₀ c s : List ℕ} {i : ℕ} {p : Stage} (g : Gating text n r count a s₀ c s i p) where
   -- a gate line is at hand
@@ -271,7 +256,7 @@ module _ {text : Bytes} {n r count : ℕ} {a : Stage} {s₀ c s : List ℕ} {i :
     each = λ gs rest ls. record {
       advances = record {
         standing = g .standing;
-        is = λ more. g .each gs rest ls .is more ∙ ruled-refused (most (capacity s₀)) _ more s p q;
+        is = λ more. g .each gs rest ls .is more ∙ ruled-refused (most (capacity s₀)) _ s p q ∙ sym (ruled-refused (most (capacity s₀)) more s p q);
       };
       next = λ z. absurd (true≢false (sym q ∙ z));
       line = λ z. absurd (true≢false (sym q ∙ z));

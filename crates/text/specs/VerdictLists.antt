@@ -1,21 +1,20 @@
 -- A good verdict text: its gates are on qubits below n, and its session ends with both lists' tensors.
 use mathlib.Core.Path.{_≡_, refl, sym, _∙_}
-use mathlib.Core.Logic.{_≢_}
 use mathlib.Core.List.{List, [], _∷_}
-use Prim.Native.Nat.{ℕ, _+_, _≤_, _<_, min, max}
+use Prim.Native.Nat.{ℕ, _+_, _≤_}
 use native.Mathlib.Omega.{arith}
 use Rattle.diagram.specs.Tensor.{Tensor, indices, indices-24}
 use Rattle.diagram.specs.Gates.{unitTensor}
 use Rattle.diagram.specs.Compare.{compared}
 use Rattle.diagram.specs.declared.gate.Gate.{Gate}
-use Rattle.diagram.specs.declared.gate.Gate.the-variants as gate
 use Rattle.text.specs.Text.{Bytes, lines}
 use Rattle.text.specs.Gates.{Placed}
 use Rattle.text.specs.Verdict.{RangedHeader, Reading, lists, fault, itemOf, headerOf, withFirst, withSecond, firstItem, firstList, secondItem, secondList, afterHeader, readLines, readText, PlacedItem}
 use Rattle.text.specs.VerdictLaws.{item-placed, header-read}
 use Rattle.text.specs.Session.{Capacity, comparison, answer, register, holding}
 use Rattle.text.specs.VerdictRun.{qubits, Outcome, refused, rulingOf, judged, verdictOf, verdict}
-use Rattle.text.specs.VerdictRunLaws.{Rising, AllFit, appliedAll, Limited, Runs, full, end, Both, session-runs}
+use Rattle.text.specs.GateShape.{gate-rising}
+use Rattle.text.specs.VerdictRunLaws.{AllFit, appliedAll, Limited, Runs, full, end, Both, session-runs}
 use Rattle.text.specs.declared.verdict.Item.{Item}
 use Rattle.text.specs.declared.verdict.Item.the-variants as item
 use Rattle.text.specs.declared.verdict.Header.{Header}
@@ -23,7 +22,6 @@ use Rattle.text.specs.declared.verdict.Header.the-variants.{Of, Bad}
 use Rattle.text.specs.declared.verdict.Fault.the-variants.{Full}
 use Rattle.text.specs.declared.ruling.Ruling.{Ruling}
 use Rattle.text.specs.declared.ruling.Ruling.the-variants.{No}
-use Rattle.text.specs.declared.call.Call.the-variants as call
 
 -- gates on qubits below n
 
@@ -59,26 +57,9 @@ first-good n at (line ∷ ls) =
     go item.Parting p r h q k = k
     go (item.Faulty f) p r h q k = tt
 
--- two different qubits below 8, in rising order
-two-rising : (p q n : ℕ) → n ≤ 8 → (p < n) × ((q < n) × (p ≢ q)) → Rising 24 0 (min p q ∷ max p q ∷ [])
-two-rising p q n l h = (omega arith, omega arith, (omega (arith, h .1 .1), omega arith, tt))
-
-gate-rising : (n : ℕ) (g : Gate) → n ≤ 8 → Placed n g → Rising 24 0 (qubits g)
-gate-rising n (gate.X q) l p = (omega arith, omega arith, tt)
-gate-rising n (gate.Y q) l p = (omega arith, omega arith, tt)
-gate-rising n (gate.Z q) l p = (omega arith, omega arith, tt)
-gate-rising n (gate.H q) l p = (omega arith, omega arith, tt)
-gate-rising n (gate.S q) l p = (omega arith, omega arith, tt)
-gate-rising n (gate.Sd q) l p = (omega arith, omega arith, tt)
-gate-rising n (gate.T q) l p = (omega arith, omega arith, tt)
-gate-rising n (gate.Td q) l p = (omega arith, omega arith, tt)
-gate-rising n (gate.Cx p q) l h = two-rising p q n l h
-gate-rising n (gate.Cz p q) l h = two-rising p q n l h
-gate-rising n (gate.Sw p q) l h = two-rising p q n l h
-
 pub placed-fit : (n : ℕ) (gs : List Gate) → n ≤ 8 → AllPlaced n gs → AllFit 24 gs
 placed-fit n [] l p = tt
-placed-fit n (g ∷ gs) l p = (gate-rising n g l (p .0), placed-fit n gs l (p .1))
+placed-fit n (g ∷ gs) l p = (gate-rising 24 n g (omega arith) (p .0), placed-fit n gs l (p .1))
 
 -- The two lists of a good text are on n qubits, 1 to 8, and every gate is on qubits below n.
 pub record GoodLists (n : ℕ) (gs hs : List Gate) : Type 0 where

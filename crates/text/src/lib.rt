@@ -1,17 +1,18 @@
 // Texts: lines read into calls, answers printed, verdict texts.
 pub mod answer;
-pub mod args;
+mod args;
 pub mod call;
 pub mod engine;
-pub mod gate;
+pub mod export;
+mod gate;
 pub mod judge;
 pub mod line;
 mod list;
-pub mod names;
+mod names;
 pub mod number;
 mod operate;
 mod perform;
-pub mod print;
+mod print;
 pub mod progress;
 mod qubits;
 mod respond;
@@ -20,4 +21,4 @@ pub mod session;
 pub mod split;
 pub mod squeeze;
 pub mod verdict;
-pub mod words;
+mod words;

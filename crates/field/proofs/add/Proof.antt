@@ -5,9 +5,6 @@ use Rattle.field.specs.Code.{stands-sum}
 use Rattle.field.proofs.add.Statement.{statement}
 use Rattle.field.proofs.add.Tie as tie
 
-s-result : tie.Need-add-s
-s-result c = search needs
-
 returns : tie.Need-returns
 returns c = stands-sum _ _ _ (omega arith)
 
@@ -15,4 +12,4 @@ returns-2 : tie.Need-returns-2
 returns-2 c = stands-sum _ _ _ (omega arith)
 
 pub add-spec : {M : Type 1} → statement M
-add-spec = tie.close (tie.spec s-result returns returns-2)
+add-spec = tie.close (tie.spec (λ c. search needs) returns returns-2)

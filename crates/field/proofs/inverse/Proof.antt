@@ -1,29 +1,27 @@
--- The powers 2^1 - 1, 2^2 - 1, 2^4 - 1, 2^8 - 1 and 2^16 - 1, each doubled from the one before.
 use borrow.Author.Needs.{needs}
-use Rattle.field.specs.Code.{powered-one, powered-double, powered-inverse}
+use Rattle.field.specs.Code.{Descending, descending-start, descending-on, descending-end, stands-inverse-zero}
 use Rattle.field.proofs.inverse.Statement.{statement}
 use Rattle.field.proofs.inverse.Tie as tie
 
-double-requires : tie.Need-double-requires
-double-requires c κs = search needs
+abbrev Inv-loop : tie.InvT-loop
+Inv-loop a d₀ d = Descending a (d .factor) (d .rest)
 
-double-requires-2 : tie.Need-double-requires-2
-double-requires-2 c κs = search needs
+abbrev μ-loop : tie.MeasureT-loop
+μ-loop a d₀ d = d .rest
 
-double-requires-3 : tie.Need-double-requires-3
-double-requires-3 c κs = search needs
+returns : tie.Need-returns Inv-loop μ-loop
+returns c = search (needs, stands-inverse-zero)
 
-double-requires-4 : tie.Need-double-requires-4
-double-requires-4 c κs = search needs
+loop-holds : tie.Need-loop-holds Inv-loop μ-loop
+loop-holds c = search (needs, descending-start)
 
-returns : tie.Need-returns
-returns c =
-    let first = powered-double _ (powered-one _ (c .before .before .before .before .pre)) (c .before .before .before .double .ensures) in
-    let second = powered-double _ first (c .before .before .double2 .ensures) in
-    let third = powered-double _ second (c .before .double3 .ensures) in
-    powered-inverse (powered-double _ third (c .double4 .ensures))
+loop-again : tie.Need-loop-again Inv-loop μ-loop
+loop-again c = search (needs, descending-on)
+
+returns-2 : tie.Need-returns-2 Inv-loop μ-loop
+returns-2 c = search (needs, descending-end)
 
 pub inverse-spec : {M : Type 1} → statement M
 inverse-spec =
     tie.close
-    (tie.spec double-requires double-requires-2 double-requires-3 double-requires-4 returns)
+    (tie.spec Inv-loop μ-loop returns loop-holds (λ c κs. search needs) (λ c. search needs) loop-again returns-2)

@@ -3,32 +3,11 @@ use borrow.Author.Needs.{needs}
 use Rattle.fill.proofs.pair.Statement.{statement}
 use Rattle.fill.proofs.pair.Tie as tie
 
-leaf-requires : tie.Need-leaf-requires
-leaf-requires c κs = search needs
-
-enum-known-l : tie.Need-enum-known-l
-enum-known-l c = search needs
-
-enum-told : tie.Need-enum-told
-enum-told c = search needs
-
-same-length : tie.Need-same-length
-same-length c = search needs
-
 returns : tie.Need-returns
 returns c = search (needs, first-full)
 
 leaf-requires-2 : tie.Need-leaf-requires-2
 leaf-requires-2 c κs = search (needs, first-sound)
-
-enum-known-h : tie.Need-enum-known-h
-enum-known-h c = search needs
-
-enum-told-2 : tie.Need-enum-told-2
-enum-told-2 c = search needs
-
-same-length-2 : tie.Need-same-length-2
-same-length-2 c = search needs
 
 returns-2 : tie.Need-returns-2
 returns-2 c = search (needs, second-full)
@@ -41,9 +20,6 @@ join-requires c κs =
     let ready = both _ _ _ _ (start .pre .0) _ (first .before .before .before .before .leaf .ensures) (first .l .given .1) _ _ _
     (second .before .before .before .before .leaf2 .ensures) (second .h .given .1) in
     (ready .0 .held, ready .1)
-
-same-length-3 : tie.Need-same-length-3
-same-length-3 c = search needs
 
 returns-3 : tie.Need-returns-3
 returns-3 c =
@@ -58,16 +34,5 @@ pub pair-spec : {M : Type 1} → statement M
 pair-spec =
     tie.close
     (tie.spec
-    leaf-requires
-    enum-known-l
-    enum-told
-    same-length
-    returns
-    leaf-requires-2
-    enum-known-h
-    enum-told-2
-    same-length-2
-    returns-2
-    join-requires
-    same-length-3
-    returns-3)
+    (λ c κs. search needs) (λ c. search needs) (λ c. search needs) (λ c. search needs) returns leaf-requires-2 (λ c. search needs)
+    (λ c. search needs) (λ c. search needs) returns-2 join-requires (λ c. search needs) returns-3)

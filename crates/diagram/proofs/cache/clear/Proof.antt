@@ -15,23 +15,11 @@ abbrev μ-loop : tie.MeasureT-loop
 loop-holds : tie.Need-loop-holds Inv-loop μ-loop
 loop-holds c = search (needs, clearing-start)
 
-mul-cache : tie.Need-mul-cache Inv-loop μ-loop
-mul-cache c = search needs
-
-slice-write-cache : tie.Need-slice-write-cache Inv-loop μ-loop
-slice-write-cache c = search needs
-
-add-i : tie.Need-add-i Inv-loop μ-loop
-add-i c = search needs
-
 loop-less : tie.Need-loop-less Inv-loop μ-loop
 loop-less c = simp length-set (omega arith)
 
 loop-again : tie.Need-loop-again Inv-loop μ-loop
 loop-again c = search (needs, clearing-on)
-
-same-length : tie.Need-same-length Inv-loop μ-loop
-same-length c = search needs
 
 returns : tie.Need-returns Inv-loop μ-loop
 returns c = search (needs, clearing-end)
@@ -40,13 +28,5 @@ pub clear-spec : {M : Type 1} → statement M
 clear-spec =
     tie.close
     (tie.spec
-    Inv-loop
-    μ-loop
-    loop-holds
-    mul-cache
-    slice-write-cache
-    add-i
-    loop-less
-    loop-again
-    same-length
+    Inv-loop μ-loop loop-holds (λ c. search needs) (λ c. search needs) (λ c. search needs) loop-less loop-again (λ c. search needs)
     returns)

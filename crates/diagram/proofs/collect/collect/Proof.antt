@@ -8,21 +8,12 @@ sweep-requires c κs =
     let pre = c .before .before .before .pre in
     (pre .held .stored .room, (pre .held .stored .numbered, (sound-down (pre .held), pre .registers)))
 
-fewer-requires : tie.Need-fewer-requires
-fewer-requires c κs = search needs
-
 rollback-requires : tie.Need-rollback-requires
 rollback-requires c κs =
     let fewer = c .before .before in
     let sweep = fewer .before .before .before .before in
     let start = sweep .before .before .before .before in
     swept-left _ _ (start .pre) (sweep .sweep .ensures) (sweep .sweep .kept .0) (fewer .fewer .ensures)
-
-same-length : tie.Need-same-length
-same-length c = search needs
-
-same-length-2 : tie.Need-same-length-2
-same-length-2 c = search needs
 
 returns : tie.Need-returns
 returns c =
@@ -34,4 +25,4 @@ returns c =
 pub collect-spec : {M : Type 1} → statement M
 collect-spec =
     tie.close
-    (tie.spec sweep-requires fewer-requires rollback-requires same-length same-length-2 returns)
+    (tie.spec sweep-requires (λ c κs. search needs) rollback-requires (λ c. search needs) (λ c. search needs) returns)

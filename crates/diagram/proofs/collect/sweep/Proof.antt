@@ -1,24 +1,14 @@
-use mathlib.Core.Path.{_≡_, _∙_}
 use native.Mathlib.Omega.{arith}
 use borrow.Author.Needs.{needs}
 use Rattle.diagram.specs.Collecting.{sweeps}
 use Rattle.diagram.proofs.collect.sweep.Statement.{statement}
 use Rattle.diagram.proofs.collect.sweep.Tie as tie
 
-reach-requires : tie.Need-reach-requires
-reach-requires c κs = search needs
-
 compact-requires : tie.Need-compact-requires
 compact-requires c κs =
     let reach = c .before .before .before in
     let start = reach .before .before .before in
     (omega (arith, start .pre .0, reach .reach .kept .0), (start .pre .1 .0, rw (reach .reach .ensures .kept) (reach .reach .ensures .closed)))
-
-renumber-requires : tie.Need-renumber-requires
-renumber-requires c κs = search needs
-
-same-length : tie.Need-same-length
-same-length c = search needs
 
 returns : tie.Need-returns
 returns c =
@@ -29,4 +19,4 @@ returns c =
 
 pub sweep-spec : {M : Type 1} → statement M
 sweep-spec =
-    tie.close (tie.spec reach-requires compact-requires renumber-requires same-length returns)
+    tie.close (tie.spec (λ c κs. search needs) compact-requires (λ c κs. search needs) (λ c. search needs) returns)

@@ -59,12 +59,4 @@ pub compact-spec : {M : Type 1} → statement M
 compact-spec =
     tie.close
     (tie.spec
-    Inv-loop
-    μ-loop
-    loop-holds
-    step-requires
-    add-m
-    loop-less
-    loop-again
-    same-length
-    returns)
+    Inv-loop μ-loop loop-holds step-requires add-m loop-less loop-again same-length returns)

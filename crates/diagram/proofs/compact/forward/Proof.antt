@@ -8,14 +8,8 @@ use Rattle.diagram.proofs.compact.forward.Tie as tie
 returns : tie.Need-returns
 returns c = rw (c .if1 .taken) (sym (forward-zero _), omega arith)
 
-sub-get : tie.Need-sub-get
-sub-get c = search needs
-
-get-requires : tie.Need-get-requires
-get-requires c κs = search needs
-
 returns-2 : tie.Need-returns-2
 returns-2 c = (c .get .ensures .0 ∙ sym (forward-node _ _ (c .before .if1 .left)), c .get .ensures .1)
 
 pub forward-spec : {M : Type 1} → statement M
-forward-spec = tie.close (tie.spec returns sub-get get-requires returns-2)
+forward-spec = tie.close (tie.spec returns (λ c. search needs) (λ c κs. search needs) returns-2)

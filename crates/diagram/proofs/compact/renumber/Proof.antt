@@ -1,8 +1,8 @@
 use Prim.Native.Nat.{_-_, _≤_}
-use mathlib.Core.Path.{_≡_, refl, ap, sym, _∙_}
+use mathlib.Core.Path.{_≡_, ap, sym, _∙_}
 use native.Mathlib.Omega.{arith}
 use borrow.Author.Needs.{needs}
-use lib.ListN.{length, getD}
+use borrow.Author.Tests.{eq-eqb}
 use Rattle.diagram.specs.Compact.{forward}
 use Rattle.diagram.specs.Registers.{register-valid}
 use Rattle.diagram.specs.Renumber.{renumberFirst, renumber-start, renumber-on, renumber-ahead, renumber-end}
@@ -19,25 +19,13 @@ abbrev μ-loop : tie.MeasureT-loop
 loop-holds : tie.Need-loop-holds Inv-loop μ-loop
 loop-holds c = (renumber-start _ _, omega arith)
 
-mul-r : tie.Need-mul-r Inv-loop μ-loop
-mul-r c = search needs
-
-element-copy-out-r : tie.Need-element-copy-out-r Inv-loop μ-loop
-element-copy-out-r c = search needs
-
 moved-requires : tie.Need-moved-requires Inv-loop μ-loop
 moved-requires c κs e =
     let loop = c .before .before in
     let start = loop .before .before in
     let same = renumber-ahead _ _ _ _ (loop .loop .inv .0) in
-    let v = register-valid _ _ _ (start .pre .1 .valid) (omega (arith, start .pre .1 .sixteen)) (ap (λ (r : Register). r .filled) (sym same) ∙ e) in
+    let v = register-valid _ _ _ (start .pre .1 .valid) (omega (arith, start .pre .1 .sixteen)) (eq-eqb _ _ (ap (λ (r : Register). r .filled) (sym same) ∙ e)) in
     rw same (omega (arith, start .pre .0, v .within))
-
-mul-x : tie.Need-mul-x Inv-loop μ-loop
-mul-x c = search needs
-
-element-set-from-x : tie.Need-element-set-from-x Inv-loop μ-loop
-element-set-from-x c = search needs
 
 add-i : tie.Need-add-i Inv-loop μ-loop
 add-i c = omega arith
@@ -60,15 +48,5 @@ pub renumber-spec : {M : Type 1} → statement M
 renumber-spec =
     tie.close
     (tie.spec
-    Inv-loop
-    μ-loop
-    loop-holds
-    mul-r
-    element-copy-out-r
-    moved-requires
-    mul-x
-    element-set-from-x
-    add-i
-    loop-less
-    loop-again
-    returns)
+    Inv-loop μ-loop loop-holds (λ c. search needs) (λ c. search needs) moved-requires (λ c. search needs) (λ c. search needs) add-i
+    loop-less loop-again returns)

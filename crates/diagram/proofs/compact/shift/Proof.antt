@@ -3,26 +3,11 @@ use borrow.Author.Needs.{needs}
 use Rattle.diagram.proofs.compact.shift.Statement.{statement}
 use Rattle.diagram.proofs.compact.shift.Tie as tie
 
-read-requires : tie.Need-read-requires
-read-requires c κs = search needs
-
 forward-requires : tie.Need-forward-requires
 forward-requires c κs = rw (c .before .read .ensures .0) (c .before .before .before .before .pre .1 .1 .1 .low-within)
 
 forward-requires-2 : tie.Need-forward-requires-2
 forward-requires-2 c κs = rw (c .before .before .before .read .ensures .0) (c .before .before .before .before .before .before .pre .1 .1 .1 .high-within)
-
-write-requires : tie.Need-write-requires
-write-requires c κs = search needs
-
-sub-set : tie.Need-sub-set
-sub-set c = search needs
-
-set-requires : tie.Need-set-requires
-set-requires c κs = search needs
-
-same-length : tie.Need-same-length
-same-length c = search needs
 
 returns : tie.Need-returns
 returns c =
@@ -33,11 +18,5 @@ pub shift-spec : {M : Type 1} → statement M
 shift-spec =
     tie.close
     (tie.spec
-    read-requires
-    forward-requires
-    forward-requires-2
-    write-requires
-    sub-set
-    set-requires
-    same-length
-    returns)
+    (λ c κs. search needs) forward-requires forward-requires-2 (λ c κs. search needs) (λ c. search needs) (λ c κs. search needs)
+    (λ c. search needs) returns)

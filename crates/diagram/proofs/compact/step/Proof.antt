@@ -5,30 +5,15 @@ use borrow.Author.Needs.{needs}
 use Rattle.diagram.proofs.compact.step.Statement.{statement}
 use Rattle.diagram.proofs.compact.step.Tie as tie
 
-get-requires : tie.Need-get-requires
-get-requires c κs = search needs
-
-same-length : tie.Need-same-length
-same-length c = search needs
-
 returns : tie.Need-returns
 returns c =
     let start = c .before .before .before .before in
     record { on = λ a f _ k. compact-dead a f _ _ _ _ k (start .pre .0) (sym (c .before .get .ensures .0) ∙ c .if1 .taken) }
 
-add-to : tie.Need-add-to
-add-to c = search needs
-
-add-shift : tie.Need-add-shift
-add-shift c = search needs
-
 shift-requires : tie.Need-shift-requires
 shift-requires c κs =
     let start = c .before .before .before .before .before in
     (omega arith, (omega (arith, start .pre), (omega (arith, start .pre), start .pre .1 .1 .1 .1 (λ e. c .before .if1 .left (c .before .before .get .ensures .0 ∙ e)))))
-
-same-length-2 : tie.Need-same-length-2
-same-length-2 c = search needs
 
 returns-2 : tie.Need-returns-2
 returns-2 c =
@@ -42,11 +27,5 @@ pub step-spec : {M : Type 1} → statement M
 step-spec =
     tie.close
     (tie.spec
-    get-requires
-    same-length
-    returns
-    add-to
-    add-shift
-    shift-requires
-    same-length-2
+    (λ c κs. search needs) (λ c. search needs) returns (λ c. search needs) (λ c. search needs) shift-requires (λ c. search needs)
     returns-2)

@@ -16,11 +16,8 @@ returns-3 c = search (needs, compares-zero, inl)
 returns-4 : tie.Need-returns-4
 returns-4 c = search (needs, compares-zero, inr)
 
-ratio-requires : tie.Need-ratio-requires
-ratio-requires c κs = search needs
-
 returns-5 : tie.Need-returns-5
 returns-5 c = search (needs, compares-factor)
 
 pub compare-spec : {M : Type 1} → statement M
-compare-spec = tie.close (tie.spec returns returns-2 returns-3 returns-4 ratio-requires returns-5)
+compare-spec = tie.close (tie.spec returns returns-2 returns-3 returns-4 (λ c κs. search needs) returns-5)

@@ -14,26 +14,11 @@ abbrev μ-loop : tie.MeasureT-loop
 loop-holds : tie.Need-loop-holds Inv-loop μ-loop
 loop-holds c = marking-start _ _ _
 
-add-mark-node : tie.Need-add-mark-node Inv-loop μ-loop
-add-mark-node c = search needs
-
 mark-node-requires : tie.Need-mark-node-requires Inv-loop μ-loop
 mark-node-requires c κs = search (needs, marking-parent)
 
-add-m : tie.Need-add-m Inv-loop μ-loop
-add-m c = search needs
-
-loop-less : tie.Need-loop-less Inv-loop μ-loop
-loop-less c = search needs
-
 loop-again : tie.Need-loop-again Inv-loop μ-loop
 loop-again c = search (needs, marking-more)
-
-mark-requires : tie.Need-mark-requires Inv-loop μ-loop
-mark-requires c κs = search needs
-
-same-length : tie.Need-same-length Inv-loop μ-loop
-same-length c = search needs
 
 returns : tie.Need-returns Inv-loop μ-loop
 returns c = search (needs, marking-end)
@@ -42,14 +27,5 @@ pub depends-spec : {M : Type 1} → statement M
 depends-spec =
     tie.close
     (tie.spec
-    Inv-loop
-    μ-loop
-    loop-holds
-    add-mark-node
-    mark-node-requires
-    add-m
-    loop-less
-    loop-again
-    mark-requires
-    same-length
-    returns)
+    Inv-loop μ-loop loop-holds (λ c. search needs) mark-node-requires (λ c. search needs) (λ c. search needs) loop-again
+    (λ c κs. search needs) (λ c. search needs) returns)

@@ -6,14 +6,8 @@ use Rattle.diagram.proofs.depends.mark.Tie as tie
 returns : tie.Need-returns
 returns c = search (needs, mark-none)
 
-sub-get : tie.Need-sub-get
-sub-get c = search needs
-
-get-requires : tie.Need-get-requires
-get-requires c κs = search needs
-
 returns-2 : tie.Need-returns-2
 returns-2 c = search (needs, mark-node)
 
 pub mark-spec : {M : Type 1} → statement M
-mark-spec = tie.close (tie.spec returns sub-get get-requires returns-2)
+mark-spec = tie.close (tie.spec returns (λ c. search needs) (λ c κs. search needs) returns-2)

@@ -6,9 +6,6 @@ use Rattle.diagram.proofs.edge.cofactor.Tie as tie
 returns : tie.Need-returns
 returns c = search (needs, cofactor-constant)
 
-read-requires : tie.Need-read-requires
-read-requires c κs = search needs
-
 returns-2 : tie.Need-returns-2
 returns-2 c = search (needs, cofactor-above)
 
@@ -18,13 +15,10 @@ times-requires c κs = search (needs, high-small)
 returns-3 : tie.Need-returns-3
 returns-3 c = search (needs, cofactor-high)
 
-times-requires-2 : tie.Need-times-requires-2
-times-requires-2 c κs = search needs
-
 returns-4 : tie.Need-returns-4
 returns-4 c = search (needs, cofactor-low)
 
 pub cofactor-spec : {M : Type 1} → statement M
 cofactor-spec =
     tie.close
-    (tie.spec returns read-requires returns-2 times-requires returns-3 times-requires-2 returns-4)
+    (tie.spec returns (λ c κs. search needs) returns-2 times-requires returns-3 (λ c κs. search needs) returns-4)

@@ -6,11 +6,8 @@ use Rattle.diagram.proofs.edge.top.Tie as tie
 returns : tie.Need-returns
 returns c = search (needs, top-none)
 
-read-requires : tie.Need-read-requires
-read-requires c κs = search needs
-
 returns-2 : tie.Need-returns-2
 returns-2 c = search (needs, top-node, top-inside)
 
 pub top-spec : {M : Type 1} → statement M
-top-spec = tie.close (tie.spec returns read-requires returns-2)
+top-spec = tie.close (tie.spec returns (λ c κs. search needs) returns-2)

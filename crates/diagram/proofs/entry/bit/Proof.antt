@@ -3,9 +3,6 @@ use borrow.Author.Needs.{needs}
 use Rattle.diagram.proofs.entry.bit.Statement.{statement}
 use Rattle.diagram.proofs.entry.bit.Tie as tie
 
-has-requires : tie.Need-has-requires
-has-requires c κs = search needs
-
 returns : tie.Need-returns
 returns c = search (needs, bit-true)
 
@@ -13,4 +10,4 @@ returns-2 : tie.Need-returns-2
 returns-2 c = search (needs, bit-false)
 
 pub bit-spec : {M : Type 1} → statement M
-bit-spec = tie.close (tie.spec has-requires returns returns-2)
+bit-spec = tie.close (tie.spec (λ c κs. search needs) returns returns-2)

@@ -31,36 +31,6 @@ alone (gate.Cx a b) k = absurd (miss tags 8 tt k)
 alone (gate.Cz a b) k = absurd (miss tags 9 tt k)
 alone (gate.Sw a b) k = absurd (miss tags 10 tt k)
 
-first-requires : tie.Need-first-requires
-first-requires c κs = search needs
-
-second-requires : tie.Need-second-requires
-second-requires c κs = search needs
-
-enum-told : tie.Need-enum-told
-enum-told c = search needs
-
-pair-requires : tie.Need-pair-requires
-pair-requires c κs = search needs
-
-enum-told-2 : tie.Need-enum-told-2
-enum-told-2 c = search needs
-
-pair-requires-2 : tie.Need-pair-requires-2
-pair-requires-2 c κs = search needs
-
-enum-told-3 : tie.Need-enum-told-3
-enum-told-3 c = search needs
-
-pair-requires-3 : tie.Need-pair-requires-3
-pair-requires-3 c κs = search needs
-
-matrix-requires : tie.Need-matrix-requires
-matrix-requires c κs = search needs
-
-single-requires : tie.Need-single-requires
-single-requires c κs = search needs
-
 returns : tie.Need-returns
 returns c = search (needs, entry-pair)
 
@@ -77,17 +47,6 @@ pub entry-spec : {M : Type 1} → statement M
 entry-spec =
     tie.close
     (tie.spec
-    first-requires
-    second-requires
-    enum-told
-    pair-requires
-    enum-told-2
-    pair-requires-2
-    enum-told-3
-    pair-requires-3
-    matrix-requires
-    single-requires
-    returns
-    returns-2
-    returns-3
-    returns-4)
+    (λ c κs. search needs) (λ c κs. search needs) (λ c. search needs) (λ c κs. search needs) (λ c. search needs)
+    (λ c κs. search needs) (λ c. search needs) (λ c κs. search needs) (λ c κs. search needs) (λ c κs. search needs) returns
+    returns-2 returns-3 returns-4)

@@ -3,29 +3,14 @@ use borrow.Author.Needs.{needs}
 use Rattle.diagram.proofs.mark.look.Statement.{statement}
 use Rattle.diagram.proofs.mark.look.Tie as tie
 
-sub-get : tie.Need-sub-get
-sub-get c = search needs
-
-get-requires : tie.Need-get-requires
-get-requires c κs = search needs
-
-same-length : tie.Need-same-length
-same-length c = search needs
-
 returns : tie.Need-returns
 returns c = let start = c .before .before .before .before in looked-dead (c .before .get .ensures .0) (start .pre .0 .first) (start .pre .1 .0) (c .if1 .taken)
-
-read-requires : tie.Need-read-requires
-read-requires c κs = search needs
 
 mark-requires : tie.Need-mark-requires
 mark-requires c κs = rw (c .before .read .ensures .0) (c .before .before .before .before .before .before .before .pre .1 .1 .low-within)
 
 mark-requires-2 : tie.Need-mark-requires-2
 mark-requires-2 c κs = rw (c .before .before .before .mark .ensures .long, c .before .before .before .before .before .read .ensures .0) (c .before .before .before .before .before .before .before .before .before .before .before .pre .1 .1 .high-within)
-
-same-length-2 : tie.Need-same-length-2
-same-length-2 c = search needs
 
 returns-2 : tie.Need-returns-2
 returns-2 c =
@@ -36,12 +21,5 @@ pub look-spec : {M : Type 1} → statement M
 look-spec =
     tie.close
     (tie.spec
-    sub-get
-    get-requires
-    same-length
-    returns
-    read-requires
-    mark-requires
-    mark-requires-2
-    same-length-2
-    returns-2)
+    (λ c. search needs) (λ c κs. search needs) (λ c. search needs) returns (λ c κs. search needs) mark-requires mark-requires-2
+    (λ c. search needs) returns-2)

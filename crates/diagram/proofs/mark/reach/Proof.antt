@@ -4,12 +4,6 @@ use Rattle.diagram.specs.Roots.{rooted-start, reaches}
 use Rattle.diagram.proofs.mark.reach.Statement.{statement}
 use Rattle.diagram.proofs.mark.reach.Tie as tie
 
-unmark-requires : tie.Need-unmark-requires
-unmark-requires c κs = search needs
-
-roots-requires : tie.Need-roots-requires
-roots-requires c κs = search needs
-
 spread-requires : tie.Need-spread-requires
 spread-requires c κs =
     let roots = c .before .before .before in
@@ -17,9 +11,6 @@ spread-requires c κs =
     let start = unmark .before .before .before in
     let rooted = roots .roots .ensures .on _ (rooted-start (unmark .unmark .ensures)) in
     (omega (arith, start .pre .0, unmark .unmark .kept .0, roots .roots .kept .0), rw (rooted .kept) (start .pre .1 .0))
-
-same-length : tie.Need-same-length
-same-length c = search needs
 
 returns : tie.Need-returns
 returns c =
@@ -32,4 +23,4 @@ returns c =
 
 pub reach-spec : {M : Type 1} → statement M
 reach-spec =
-    tie.close (tie.spec unmark-requires roots-requires spread-requires same-length returns)
+    tie.close (tie.spec (λ c κs. search needs) (λ c κs. search needs) spread-requires (λ c. search needs) returns)

@@ -3,6 +3,7 @@ use mathlib.Core.Path.{_≡_, refl, _∙_}
 use native.Mathlib.Omega.{arith}
 use borrow.Author.Needs.{needs}
 use lib.ListN.{length}
+use borrow.Author.Tests.{eq-eqb}
 use Rattle.diagram.specs.Roots.{Rooting, rooting-start, rooting-on, rooting-end}
 use Rattle.diagram.specs.Registers.{register-valid}
 use Rattle.diagram.proofs.mark.roots.Statement.{statement}
@@ -17,17 +18,11 @@ abbrev μ-loop : tie.MeasureT-loop
 loop-holds : tie.Need-loop-holds Inv-loop μ-loop
 loop-holds c = (rooting-start _ _ _, omega arith, refl)
 
-mul-r : tie.Need-mul-r Inv-loop μ-loop
-mul-r c = search needs
-
-array-copy-out-r : tie.Need-array-copy-out-r Inv-loop μ-loop
-array-copy-out-r c = search needs
-
 root-requires : tie.Need-root-requires Inv-loop μ-loop
 root-requires c κs e =
     let loop = c .before .before .before in
     let start = loop .before .before .before in
-    let v = register-valid _ _ _ (start .pre .1 .valid) (omega (arith, start .pre .1 .sixteen)) e in
+    let v = register-valid _ _ _ (start .pre .1 .valid) (omega (arith, start .pre .1 .sixteen)) (eq-eqb _ _ e) in
     omega (arith, start .pre .0, loop .loop .inv .2, v .within)
 
 add-i : tie.Need-add-i Inv-loop μ-loop
@@ -51,14 +46,4 @@ pub roots-spec : {M : Type 1} → statement M
 roots-spec =
     tie.close
     (tie.spec
-    Inv-loop
-    μ-loop
-    loop-holds
-    mul-r
-    array-copy-out-r
-    root-requires
-    add-i
-    loop-less
-    loop-again
-    same-length
-    returns)
+    Inv-loop μ-loop loop-holds (λ c. search needs) (λ c. search needs) root-requires add-i loop-less loop-again same-length returns)

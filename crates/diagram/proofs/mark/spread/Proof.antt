@@ -51,12 +51,4 @@ pub spread-spec : {M : Type 1} → statement M
 spread-spec =
     tie.close
     (tie.spec
-    Inv-loop
-    μ-loop
-    loop-holds
-    look-requires
-    sub-n
-    loop-less
-    loop-again
-    same-length
-    returns)
+    Inv-loop μ-loop loop-holds look-requires sub-n loop-less loop-again same-length returns)

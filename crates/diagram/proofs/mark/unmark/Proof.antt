@@ -3,7 +3,6 @@ use mathlib.Core.Path.{_≡_, refl, _∙_}
 use native.Mathlib.Omega.{arith}
 use borrow.Author.Needs.{needs}
 use lib.ListN.{length}
-use Rattle.diagram.specs.Fields.{put-length}
 use Rattle.diagram.specs.Roots.{Unmarked, unmarked-start, unmarked-on}
 use Rattle.diagram.proofs.mark.unmark.Statement.{statement}
 use Rattle.diagram.proofs.mark.unmark.Tie as tie
@@ -16,9 +15,6 @@ abbrev μ-loop : tie.MeasureT-loop
 
 loop-holds : tie.Need-loop-holds Inv-loop μ-loop
 loop-holds c = (unmarked-start _, omega arith, refl)
-
-set-requires : tie.Need-set-requires Inv-loop μ-loop
-set-requires c κs = search needs
 
 add-m : tie.Need-add-m Inv-loop μ-loop
 add-m c = omega arith
@@ -42,4 +38,4 @@ returns c =
     rw done at (c .before .loop .inv .0)
 
 pub unmark-spec : {M : Type 1} → statement M
-unmark-spec = tie.close (tie.spec Inv-loop μ-loop loop-holds set-requires add-m loop-less loop-again same-length returns)
+unmark-spec = tie.close (tie.spec Inv-loop μ-loop loop-holds (λ c κs. search needs) add-m loop-less loop-again same-length returns)

@@ -4,9 +4,6 @@ use borrow.Author.Needs.{needs}
 use Rattle.diagram.proofs.mask.below.Statement.{statement}
 use Rattle.diagram.proofs.mask.below.Tie as tie
 
-bit-requires : tie.Need-bit-requires
-bit-requires c κs = search needs
-
 rem-result : tie.Need-rem-result
 rem-result c = omega (arith, below-some _ _ (c .bit .ensures))
 
@@ -14,4 +11,4 @@ returns : tie.Need-returns
 returns c = below-is _ _ _ (c .bit .ensures)
 
 pub below-spec : {M : Type 1} → statement M
-below-spec = tie.close (tie.spec bit-requires rem-result returns)
+below-spec = tie.close (tie.spec (λ c κs. search needs) rem-result returns)

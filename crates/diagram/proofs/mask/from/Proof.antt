@@ -3,14 +3,8 @@ use borrow.Author.Needs.{needs}
 use Rattle.diagram.proofs.mask.from.Statement.{statement}
 use Rattle.diagram.proofs.mask.from.Tie as tie
 
-below-requires : tie.Need-below-requires
-below-requires c κs = search needs
-
-sub-result : tie.Need-sub-result
-sub-result c = search needs
-
 returns : tie.Need-returns
 returns c = search (needs, from-is)
 
 pub from-spec : {M : Type 1} → statement M
-from-spec = tie.close (tie.spec below-requires sub-result returns)
+from-spec = tie.close (tie.spec (λ c κs. search needs) (λ c. search needs) returns)

@@ -4,11 +4,8 @@ use borrow.Author.Needs.{needs}
 use Rattle.diagram.proofs.mask.has.Statement.{statement}
 use Rattle.diagram.proofs.mask.has.Tie as tie
 
-shr-result : tie.Need-shr-result
-shr-result c = search needs
-
 returns : tie.Need-returns
 returns c = sym (bits-at _ _)
 
 pub has-spec : {M : Type 1} → statement M
-has-spec = tie.close (tie.spec shr-result returns)
+has-spec = tie.close (tie.spec (λ c. search needs) returns)

@@ -3,12 +3,6 @@ use borrow.Author.Needs.{needs}
 use Rattle.diagram.proofs.mask.without.Statement.{statement}
 use Rattle.diagram.proofs.mask.without.Tie as tie
 
-has-requires : tie.Need-has-requires
-has-requires c κs = search needs
-
-bit-requires : tie.Need-bit-requires
-bit-requires c κs = search needs
-
 sub-result : tie.Need-sub-result
 sub-result c = search (needs, without-some)
 
@@ -19,4 +13,4 @@ returns-2 : tie.Need-returns-2
 returns-2 c = search (needs, without-none)
 
 pub without-spec : {M : Type 1} → statement M
-without-spec = tie.close (tie.spec has-requires bit-requires sub-result returns returns-2)
+without-spec = tie.close (tie.spec (λ c κs. search needs) (λ c κs. search needs) sub-result returns returns-2)

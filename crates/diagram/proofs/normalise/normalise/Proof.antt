@@ -6,14 +6,8 @@ use Rattle.diagram.proofs.normalise.normalise.Tie as tie
 returns : tie.Need-returns
 returns c = search (needs, normalised-high)
 
-inverse-requires : tie.Need-inverse-requires
-inverse-requires c κs = search needs
-
-mul-requires : tie.Need-mul-requires
-mul-requires c κs = search needs
-
 returns-2 : tie.Need-returns-2
 returns-2 c = search (needs, normalised-low)
 
 pub normalise-spec : {M : Type 1} → statement M
-normalise-spec = tie.close (tie.spec returns inverse-requires mul-requires returns-2)
+normalise-spec = tie.close (tie.spec returns (λ c κs. search needs) (λ c κs. search needs) returns-2)

@@ -3,12 +3,6 @@ use borrow.Author.Needs.{needs}
 use Rattle.diagram.proofs.operation.times.Statement.{statement}
 use Rattle.diagram.proofs.operation.times.Tie as tie
 
-enum-known-made : tie.Need-enum-known-made
-enum-known-made c = search needs
-
-enum-told : tie.Need-enum-told
-enum-told c = search needs
-
 returns : tie.Need-returns
 returns c = search (needs, multiplied-full)
 
@@ -21,4 +15,4 @@ returns-2 : tie.Need-returns-2
 returns-2 c = search (needs, multiplied-edge)
 
 pub times-spec : {M : Type 1} → statement M
-times-spec = tie.close (tie.spec enum-known-made enum-told returns times-requires returns-2)
+times-spec = tie.close (tie.spec (λ c. search needs) (λ c. search needs) returns times-requires returns-2)

@@ -10,29 +10,11 @@ Inv-loop s count buckets x b r₀ r = Walking s count buckets x r
 abbrev μ-loop : tie.MeasureT-loop
 μ-loop s count buckets x b r₀ r = r
 
-hash-requires : tie.Need-hash-requires Inv-loop μ-loop
-hash-requires c κs = search needs
-
-get-requires : tie.Need-get-requires Inv-loop μ-loop
-get-requires c κs = search needs
-
 loop-holds : tie.Need-loop-holds Inv-loop μ-loop
 loop-holds c = search (needs, walk-start)
 
-read-requires : tie.Need-read-requires Inv-loop μ-loop
-read-requires c κs = search needs
-
-same-requires : tie.Need-same-requires Inv-loop μ-loop
-same-requires c κs = search needs
-
 returns : tie.Need-returns Inv-loop μ-loop
 returns c = search (needs, walk-found)
-
-sub-get : tie.Need-sub-get Inv-loop μ-loop
-sub-get c = search needs
-
-get-requires-2 : tie.Need-get-requires-2 Inv-loop μ-loop
-get-requires-2 c κs = search needs
 
 loop-less : tie.Need-loop-less Inv-loop μ-loop
 loop-less c = search (needs, walk-less)
@@ -47,16 +29,5 @@ pub find-spec : {M : Type 1} → statement M
 find-spec =
     tie.close
     (tie.spec
-    Inv-loop
-    μ-loop
-    hash-requires
-    get-requires
-    loop-holds
-    read-requires
-    same-requires
-    returns
-    sub-get
-    get-requires-2
-    loop-less
-    loop-again
-    returns-2)
+    Inv-loop μ-loop (λ c κs. search needs) (λ c κs. search needs) loop-holds (λ c κs. search needs) (λ c κs. search needs) returns
+    (λ c. search needs) (λ c κs. search needs) loop-less loop-again returns-2)

@@ -3,35 +3,8 @@ use borrow.Author.Needs.{needs}
 use Rattle.replay.proofs.calls.multiply.Statement.{statement}
 use Rattle.replay.proofs.calls.multiply.Tie as tie
 
-contract-requires : tie.Need-contract-requires
-contract-requires c κs = search needs
-
-enum-known-e : tie.Need-enum-known-e
-enum-known-e c = search needs
-
-enum-told : tie.Need-enum-told
-enum-told c = search needs
-
 refuse-requires : tie.Need-refuse-requires
 refuse-requires c κs = search (needs, works-left)
-
-same-length : tie.Need-same-length
-same-length c = search needs
-
-same-length-2 : tie.Need-same-length-2
-same-length-2 c = search needs
-
-returns : tie.Need-returns
-returns c = search needs
-
-put-requires : tie.Need-put-requires
-put-requires c κs = search needs
-
-same-length-3 : tie.Need-same-length-3
-same-length-3 c = search needs
-
-same-length-4 : tie.Need-same-length-4
-same-length-4 c = search needs
 
 returns-2 : tie.Need-returns-2
 returns-2 c = search (needs, standing-works)
@@ -40,14 +13,5 @@ pub multiply-spec : {M : Type 1} → statement M
 multiply-spec =
     tie.close
     (tie.spec
-    contract-requires
-    enum-known-e
-    enum-told
-    refuse-requires
-    same-length
-    same-length-2
-    returns
-    put-requires
-    same-length-3
-    same-length-4
-    returns-2)
+    (λ c κs. search needs) (λ c. search needs) (λ c. search needs) refuse-requires (λ c. search needs) (λ c. search needs)
+    (λ c. search needs) (λ c κs. search needs) (λ c. search needs) (λ c. search needs) returns-2)

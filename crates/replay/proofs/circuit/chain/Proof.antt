@@ -44,13 +44,4 @@ pub chain-spec : {M : Type 1} → statement M
 chain-spec =
     tie.close
     (tie.spec
-    Inv-loop
-    μ-loop
-    loop-holds
-    entangle-requires
-    add-q
-    loop-less
-    loop-again
-    same-length
-    same-length-2
-    returns)
+    Inv-loop μ-loop loop-holds entangle-requires add-q loop-less loop-again same-length same-length-2 returns)

@@ -1,5 +1,6 @@
 use borrow.Author.Needs.{needs}
-use Rattle.text.specs.Stage.{facing-gate, placed-more, gated}
+use Rattle.text.specs.GateShape.{placed-more}
+use Rattle.text.specs.Stage.{facing-gate, gated}
 use Rattle.text.proofs.list.gate.Statement.{statement}
 use Rattle.text.proofs.list.gate.Tie as tie
 

@@ -1,6 +1,7 @@
 use borrow.Author.Needs.{needs}
 use Rattle.text.specs.Engine.{does-leaves}
-use Rattle.text.specs.Respond.{placed-allowed, responds-gate}
+use Rattle.text.specs.GateShape.{placed-allowed}
+use Rattle.text.specs.Respond.{responds-gate}
 use Rattle.text.proofs.operate.gate.Statement.{statement}
 use Rattle.text.proofs.operate.gate.Tie as tie
 

@@ -1,0 +1,63 @@
+//! What document 01 prints and marks: the session shown whole, and the cases d to k.
+
+use jorehyi::{judge, session, Answer, Edge};
+
+const PRINTED_LINES: &[u8] = include_bytes!("../../../crates/session/stdin");
+const PRINTED_ANSWERS: &[u8] = include_bytes!("../../../crates/session/stdout");
+
+/// The answers to a session at a capacity, with room for all of them.
+fn answers(text: &[u8], capacity: usize) -> Vec<u8> {
+    let mut store = vec![0; 16 * capacity];
+    let mut cache = [0; 64];
+    let mut out = [0; 256];
+    let result = session(text, &mut store, &mut cache, &mut out);
+    assert_eq!(result.code, 0);
+    out[..result.bytes as usize].to_vec()
+}
+
+#[test]
+fn the_printed_session() {
+    let mut store = vec![0; 2048 * 16];
+    let mut cache = vec![0; 16_384];
+    let mut out = [0xa5; 256];
+    let result = session(PRINTED_LINES, &mut store, &mut cache, &mut out);
+
+    let written = result.bytes as usize;
+    assert_eq!(&out[..written], PRINTED_ANSWERS);
+    assert!(out[written..].iter().all(|&b| b == 0xa5));
+    assert_eq!((result.code, result.lines, result.count), (0, 8, 2));
+
+    // Register 1 is twice H on qubit 0, whose first value is 2h, root two; H's own node is put in after its high part's.
+    let mut registers = [None; 16];
+    registers[1] = Some(Edge {
+        weight: 61_457,
+        node: 2,
+    });
+    assert_eq!(result.registers, registers);
+}
+
+#[test]
+fn the_unit_needs_three_nodes() {
+    assert_eq!(answers(b"unit\t0\t1\n", 3), b"ok\t3\n");
+    assert_eq!(answers(b"unit\t0\t1\n", 2), b"no\t8\n");
+}
+
+#[test]
+fn h_needs_two_nodes() {
+    assert_eq!(answers(b"gate\t0\tH\t0\n", 2), b"ok\t2\n");
+    assert_eq!(answers(b"gate\t0\tH\t0\n", 1), b"no\t8\n");
+}
+
+#[test]
+fn the_marked_verdicts() {
+    assert_eq!(judge(b"lines\t1\nH\t0\nH\t0\n=\n", 2048), Answer::Same);
+    assert_eq!(
+        judge(b"lines\t1\nT\t0\nT\t0\n=\nS\t0\n", 2048),
+        Answer::Same
+    );
+    assert_eq!(
+        judge(b"lines\t1\nX\t0\nZ\t0\nX\t0\n=\nZ\t0\n", 2048),
+        Answer::Factor(65_536)
+    );
+    assert_eq!(judge(b"lines\t1\nS\t0\n=\nZ\t0\n", 2048), Answer::Differ);
+}
