@@ -107,6 +107,10 @@ doubling-on i r r' h p = record { small = p .small; is = rw (add-one i) (p .is �
 pub factor-is : (m k b r : ℕ) → b ≡ m % 2 ^ k → Stands r (power2 (ones b)) → Stands r (power2 (members k (bits m)))
 factor-is m k b r p e = record { small = e .small; is = e .is ∙ ap power2 (ap ones p ∙ ones-below k m) }
 
+pub factor-none : (m k b : ℕ) → b ≡ m % 2 ^ k → b ≡ 0 → Stands 1 (power2 (members k (bits m)))
+unfolding ones onesIn
+factor-none m k b p e = factor-is m k b 1 p (rw e doubling-start)
+
 -- r has the members of m from k on
 pub record Rest (m k r : ℕ) : Type 0 where
   pub is : bits r ≡ above k (bits m)

@@ -107,6 +107,11 @@ holds-at ts [] i = refl
 holds-at ts (r ∷ rs) zero = refl
 holds-at ts (r ∷ rs) (suc i) = holds-at ts rs i
 
+pub holds-length : {d : ℕ} (ts : Set d) (rs : List Register) → length (holdsAll ts rs) ≡ length rs
+unfolding holdsAll
+holds-length ts [] = refl
+holds-length ts (r ∷ rs) = ap suc (holds-length ts rs)
+
 pub holds-set : {d : ℕ} (ts : Set d) (rs : List Register) (i : ℕ) (r : Register) → holdsAll ts (set rs i r) ≡ set (holdsAll ts rs) i (holds ts r)
 unfolding holdsAll
 holds-set ts [] i r = refl

@@ -22,9 +22,12 @@ mix x = x .index * 40503 + x .low .weight * 977 + x .low .node + x .high .weight
 unfoldable pub hash : ℕ → Node → ℕ
 hash k x = bitAnd (mix x) (k - 1)
 
+pub masked-lt : (m k : ℕ) → 1 ≤ k → bitAnd m (k - 1) < k
+masked-lt m k h = omega (arith, and-le-r m (k - 1))
+
 pub hash-lt : (k : ℕ) (x : Node) → 1 ≤ k → hash k x < k
 unfolding hash
-hash-lt k x h = omega (arith, and-le-r (mix x) (k - 1))
+hash-lt k x h = masked-lt (mix x) k h
 
 -- the bucket of the n-th of the nodes f. Shut, so that `rw` finds `nodeAt s` in `hashOf k (nodeAt s)`
 unfoldable pub hashOf : ℕ → (ℕ → Node) → ℕ → ℕ

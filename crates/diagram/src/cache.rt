@@ -59,7 +59,7 @@ fn packed(key: Key) -> u64
     n * 4294967296 + left * 65536 + right
 }
 
-// The entry of a key, one of so many. Close nodes have close entries, as in the unique table.
+// The entry of a key, one of so many. Close nodes have close entries, as in the unique table. A power of 2 needs no division.
 fn place(slots: usize, key: Key) -> usize
     requires { ⌜ (1 ≤ slots) × Narrow key ⌝ }
     ensures { λ i. ⌜ i < slots ⌝ }
@@ -68,6 +68,10 @@ fn place(slots: usize, key: Key) -> usize
     let right = key.right;
     let arg = narrow(key.arg);
     let m = left * 5 + right * 3 + arg * 977;
+    let mask = slots - 1;
+    if slots & mask == 0 {
+        return m & mask;
+    }
     m % slots
 }
 

@@ -54,12 +54,15 @@ fn below(m: u64, k: usize) -> u64
     m % b
 }
 
-// 2 to the count of members below k.
+// 2 to the count of members below k, of which there are mostly none.
 pub fn factor(m: u64, k: usize) -> u64
     requires { ⌜ k < 64 ⌝ }
     ensures { λ r. ⌜ Stands r (power2 (members k (bits m))) ⌝ }
 {
     let b = below(m, k);
+    if b == 0 {
+        return 1;
+    }
     doubled(u64::count_ones(b))
 }
 

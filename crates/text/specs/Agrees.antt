@@ -11,7 +11,7 @@ use Rattle.diagram.specs.Tally.{Set}
 use Rattle.diagram.specs.Node.{nodeAt}
 use Rattle.diagram.specs.Listed.{listed}
 use Rattle.diagram.specs.Meaning.{tensorAt, tensors}
-use Rattle.diagram.specs.Registers.{occupied, emptyRegister, holds}
+use Rattle.diagram.specs.Registers.{occupied, emptyRegister}
 use Rattle.diagram.specs.declared.registers.Register.{Register}
 use Rattle.text.specs.Text.{Bytes}
 use Rattle.text.specs.Answers.{written}

@@ -42,6 +42,8 @@ pub mod AgreesLaws
 pub mod Progress
 -- the verdict's session, call by call and line by line
 pub mod Qubits
+pub mod Apply
+pub mod ApplyLaws
 pub mod Perform
 pub mod Stage
 pub mod Judge

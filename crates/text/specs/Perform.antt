@@ -1,28 +1,40 @@
--- The calls of a verdict's session, one after another until one is refused, as the code runs them.
-use mathlib.Core.Path.{_≡_, refl, ap, sym, _∙_}
+-- The calls of a verdict's session until one is refused, as the code runs them: one, or a gate's as one step.
+use mathlib.Core.Path.{_≡_, refl, ap, _∙_}
 use mathlib.Core.Bool.{Bool, true, false, cond}
-use mathlib.Core.List.{List, [], _∷_, _++_, append-assoc}
-use Prim.Native.Nat.{ℕ, _+_, _*_}
-use lib.ListN.{length}
-use Rattle.diagram.specs.Tensor.{indices}
+use mathlib.Core.List.{List, [], _∷_, _++_}
+use Prim.Native.Nat.{ℕ, _<_}
+use native.Mathlib.Omega.{arith}
+use lib.ListN.{length, set}
+use Rattle.diagram.specs.Tensor.{indices, indices-24}
 use Rattle.diagram.specs.Node.{capacity}
-use Rattle.diagram.specs.Standing.{Standing}
+use Rattle.diagram.specs.Engine.{setOf, tensorOf}
+use Rattle.diagram.specs.Registers.{emptyRegister, holds, holds-length, holds-set, Reads, Registered}
+use Rattle.diagram.specs.Collecting.{Collected}
+use Rattle.diagram.specs.Meaning.{Valid}
+use Rattle.diagram.specs.Standing.{Standing, heldTensor, holds-read, read-valid, standing-collected}
+use Rattle.diagram.specs.declared.node.Edge.{Edge}
+use Rattle.diagram.specs.declared.make.State.{State}
 use Rattle.diagram.specs.declared.gate.Gate.{Gate}
-use Rattle.text.specs.Session.{Capacity, most, Tally, answer}
-use Rattle.text.specs.VerdictRun.{qubits, middles, lows, gateCalls, Numbered, atLine, Outcome, refused, onward, perform, judged}
-use Rattle.text.specs.Engine.{tallyOf, Responds}
-use Rattle.text.specs.Qubits.{listed, QubitsOf}
+use Rattle.diagram.specs.declared.registers.Register.{Register}
+use Rattle.diagram.specs.declared.registers.Registers.{Registers}
+use Rattle.diagram.specs.declared.registers.Held.{Held}
+use Rattle.diagram.specs.declared.registers.Held.the-variants as held
+use Rattle.text.specs.Session.{Capacity, most, Tally}
+use Rattle.text.specs.Gates.{Placed}
+use Rattle.text.specs.GateShape.{gate-rising}
+use Rattle.text.specs.VerdictRun.{gateCalls, Numbered, atLine, Outcome, refused, onward, perform, judged}
+use Rattle.text.specs.Engine.{tallyOf, Settled, Responds}
+use Rattle.text.specs.Apply.{applies, tidied}
+use Rattle.text.specs.ApplyLaws.{gate-performs, gate-empty}
 use Rattle.text.specs.declared.answer.Answer.{Answer}
 use Rattle.text.specs.declared.answer.Answer.the-variants as answers
 use Rattle.text.specs.declared.call.Call.{Call}
-use Rattle.text.specs.declared.call.Call.the-variants as call
+use Rattle.text.specs.declared.engine.Engine.{Engine}
 use Rattle.text.specs.declared.engine.Reply.{Reply}
 use Rattle.text.specs.declared.perform.Run.{Run}
 use Rattle.text.specs.declared.ruling.Ruling.{Ruling}
 use Rattle.text.specs.declared.ruling.Ruling.the-variants.{No}
 use Rattle.text.specs.declared.verdict.Fault.the-variants.{Full}
-use Rattle.text.specs.declared.qubits.Qubits.{Qubits}
-use Rattle.text.specs.declared.qubits.Qubits.the-variants.{One, Two}
 
 abbrev pub isNo : Answer → Bool
 isNo (answers.Ok n) = false
@@ -51,9 +63,6 @@ judged-onward c line answers.Same t f = refl
 judged-onward c line (answers.Factor w) t f = refl
 judged-onward c line answers.Differ t f = refl
 
-pub is-no-as : {a b : Answer} → a ≡ b → isNo b ≡ isNo a
-is-no-as q = ap isNo (sym q)
-
 -- one call
 
 pub extends-refused : {c s : List ℕ} {a : Run} {xs : List Call} → Standing c s (a .engine .state) (a .engine .registers .all) → a .refused ≡ true
@@ -69,44 +78,69 @@ extends-call {s} {c'} {s'} {a} {x} {y} q w n = record {
   is = λ line more. rw (q, w .is, n) (judged-onward (most (capacity s)) line (y .answer) (tallyOf s' (y .engine)) (perform (most (capacity s)) more));
 }
 
--- some calls, then others
+-- "`drop 2`, `collect`"
 
-at-line-append : (line : ℕ) (xs ys : List Call) → atLine line (xs ++ ys) ≡ atLine line xs ++ atLine line ys
-unfolding atLine
-at-line-append line [] ys = refl
-at-line-append line (x ∷ xs) ys = ap (λ l. (line, x) ∷ l) (at-line-append line xs ys)
+pub record Tidied (s c' s' : List ℕ) (e r : Engine) : Type 0 where
+  pub standing : Standing c' s' (r .state) (r .registers .all)
+  pub is : tallyOf s' r ≡ tidied (tallyOf s e)
 
-pub extends-then : {s c₁ s₁ c' s' : List ℕ} {a b r : Run} {xs ys zs : List Call} → length s₁ ≡ length s → Extends s c₁ s₁ a xs b → Extends s₁ c' s' b ys r
-    → zs ≡ xs ++ ys → Extends s c' s' a zs r
-extends-then {s} {s₁ = s₁} {s' = s'} {a} {b} {r} {xs} {ys} l v w q = record {
-  standing = w .standing;
-  is = λ line more. rw (q, at-line-append line xs ys, append-assoc (atLine line xs) (atLine line ys) more)
-      (v .is line (atLine line ys ++ more) ∙ second line more);
+pub tidies : {s c' s' : List ℕ} {e : Engine} {rs rs' : Registers} {st : State} → rs .all ≡ set (e .registers .all) 2 emptyRegister
+    → Collected c' s s' (e .state) st (rs .all) (rs' .all) → Tidied s c' s' e (record { state = st; registers = rs' })
+unfolding tallyOf tidied holds
+tidies {s} {e = e} q w = record {
+  standing = standing-collected w;
+  is = rw (w .same, w .set, q, holds-set (setOf s (e .state)) (e .registers .all) 2 emptyRegister);
 }
-  where
-    second : (line : ℕ) (more : List Numbered) → after (most (capacity s)) line (atLine line ys ++ more) s₁ b ≡ after (most (capacity s)) line more s' r
-    second line more = rw (l) at (w .is line more)
 
--- "`low` of their fresh indices in rising order"
+-- What follows a gate's step, whatever its line and whatever follows: the calls after it, or the refusal.
+pub record Finishes (s c' s' : List ℕ) (y : Reply) (x : Run) : Type 0 where
+  pub standing : Standing c' s' (x .engine .state) (x .engine .registers .all)
+  pub is : (c : Capacity) (line : ℕ) (more : List Numbered)
+      → judged c (onward line (y .answer, tallyOf s (y .engine)) (λ t. perform c more (tidied t))) ≡ after c line more s' x
 
-pub extends-low : {s c' s' : List ℕ} {a x : Run} (r q : ℕ) → Extends s c' s' a (call.Low r r (3 * q + 2) ∷ []) x → Extends s c' s' a (lows r (q ∷ [])) x
-unfolding lows
-extends-low r q w = w
+module _ {s : List ℕ} {y : Reply} {a : Answer} {e : Engine} {b : Bool} (p : a ≡ y .answer) (q : e ≡ y .engine) (n : b ≡ isNo a) where
+  pub finishes-refused : {c' : List ℕ} → Standing c' s (y .engine .state) (y .engine .registers .all) → b ≡ true
+      → Finishes s c' s y (record { refused = b; engine = e })
+  unfolding after
+  finishes-refused w m = record {
+    standing = rw q w;
+    is = λ c line more. judged-onward c line (y .answer) (tallyOf s (y .engine)) _ ∙ rw (← p, ← n, m);
+  }
 
-pub lowered-one : {s c' s' : List ℕ} {a x : Run} (r : ℕ) {q : ℕ} {qs : Qubits} → qs ≡ One q → Extends s c' s' a (lows r (q ∷ [])) x → Extends s c' s' a (lows r (listed qs)) x
-lowered-one r e w = rw e w
+  pub finishes-tidied : {c' s' : List ℕ} {r : Engine} → Tidied s c' s' e r → b ≡ false → Finishes s c' s' y (record { refused = b; engine = r })
+  unfolding after
+  finishes-tidied {s' = s'} w m = record {
+    standing = w .standing;
+    is = λ c line more. judged-onward c line (y .answer) (tallyOf s (y .engine)) _ ∙ rw (← p, ← n, m, w .is, q);
+  }
 
-pub lowered-two : {s c₁ s₁ c' s' : List ℕ} {a b x : Run} (r : ℕ) {p q : ℕ} {qs : Qubits} → qs ≡ Two p q → length s₁ ≡ length s → Extends s c₁ s₁ a (lows r (p ∷ [])) b
-    → Extends s₁ c' s' b (lows r (q ∷ [])) x → Extends s c' s' a (lows r (listed qs)) x
-unfolding lows
-lowered-two r e l v w = rw e (extends-then l v w refl)
+-- a gate
 
--- a gate's calls
-pub extends-gate : {s c₁ s₁ c₂ s₂ c' s' : List ℕ} {a b d x : Run} {r m : ℕ} {g : Gate} {qs : Qubits} → QubitsOf g qs → m ≡ middles (listed qs)
-    → length s₁ ≡ length s → length s₂ ≡ length s₁ → Extends s c₁ s₁ a (call.Gate 2 g ∷ call.Cont r 2 r m ∷ []) b → Extends s₁ c₂ s₂ b (lows r (listed qs)) d
-    → Extends s₂ c' s' d (call.Drop 2 ∷ call.Collect ∷ []) x → Extends s c' s' a (gateCalls r g) x
-unfolding gateCalls
-extends-gate {r = r} {m} {g} {qs} q e k l u v w =
-    let z : m ≡ middles (qubits g) = e ∙ ap middles (q .is) in
-    extends-then (l ∙ k) (extends-then k u v refl) w
-    (rw (← z, ← q .is))
+pub list-valid : {m : ℕ} {rs : List Register} {r : ℕ} {x : Edge} {h : Held} → Registered m rs → r < 2 → Reads rs r h → h ≡ held.Edge x → Valid m x
+list-valid {h = h} g p i o = read-valid h g (omega arith) i o
+
+module _ {c s : List ℕ} {a : Run} {r : ℕ} (g : Gate) (w : Standing c s (a .engine .state) (a .engine .registers .all)) (q : a .refused ≡ false) (small : r < 2)
+    {h : Held} (i : Reads (a .engine .registers .all) r h) where
+  pub extends-empty : {e : Engine} {b : Bool} → e ≡ a .engine → h ≡ held.Empty → b ≡ true → Extends s c s a (gateCalls r g) (record { refused = b; engine = e })
+  unfolding after tallyOf
+  extends-empty m o n = record {
+    standing = rw m w;
+    is = λ line more. rw (q, n)
+        (gate-empty (most (capacity s)) line r g (tallyOf s (a .engine)) more small (holds-read (setOf s (a .engine .state)) i ∙ ap (heldTensor _) o));
+  }
+
+  pub extends-gate : {x : Edge} {c₁ s₁ c' s' : List ℕ} {y : Reply} {z : Run} → Placed 8 g → h ≡ held.Edge x
+      → Settled c₁ s s₁ (a .engine) r (applies g (tensorOf s (a .engine .state) x)) y → Finishes s₁ c' s' y z → Extends s c' s' a (gateCalls r g) z
+  unfolding after tallyOf tensorOf
+  extends-gate {x} p o v f = record {
+    standing = f .standing;
+    is = λ line more. rw q
+        (ap (judged (most (capacity s)))
+        (gate-performs (most (capacity s)) line r g (tensorOf s (a .engine .state) x) (tallyOf s (a .engine)) more small sixteen
+        (holds-read (setOf s (a .engine .state)) i ∙ ap (heldTensor _) o) (gate-rising indices 8 g (omega (arith, indices-24)) p)
+        ∙ ap (λ y. onward line y (λ t. perform (most (capacity s)) more (tidied t))) (v .is))
+        ∙ f .is (most (capacity s)) line more);
+  }
+    where
+      sixteen : length (tallyOf s (a .engine) .registers) ≡ 16
+      sixteen = holds-length (setOf s (a .engine .state)) (a .engine .registers .all) ∙ w .registers .sixteen

@@ -17,7 +17,7 @@ use Rattle.diagram.specs.RingLaws.{at-times}
 use Rattle.diagram.specs.OverLaws.{settings, sumOver, at-sumOver}
 use Rattle.diagram.specs.LowLaws.{lowered, at-lowered}
 use Rattle.diagram.specs.Tabulate.{Sees, at-tabulate, bits-none}
-use Rattle.diagram.specs.Gates.{Matrix, onQubit, entry, equal, gateTensor, straight, unitEntry, unitTensor}
+use Rattle.diagram.specs.Gates.{Matrix, onQubit, entry, gateTensor, straight, unitEntry, unitTensor}
 use Rattle.diagram.specs.GateLaws.{unit-at}
 use Rattle.diagram.specs.declared.gate.Gate.{Gate}
 use Rattle.diagram.specs.declared.gate.Gate.the-variants as gate

@@ -7,7 +7,7 @@ use Prim.Native.Nat.{ℕ, _≤_, _<_}
 use native.Mathlib.Omega.{arith}
 use lib.Dec.{eqb, leb}
 use borrow.Author.Tests.{eqb-false, le-leb, lt-leb, leb-true, ltb-true}
-use Rattle.text.specs.Text.{Bytes, bytes, tab, sameBytes, lines, fields}
+use Rattle.text.specs.Text.{Bytes, bytes, tab, sameBytes, fields}
 use Rattle.text.specs.Split.{part, Ends, rest, fields-first}
 use Rattle.text.specs.Gates.{oneQubit, twoQubits}
 use Rattle.text.specs.Calls.{numbers}

@@ -12,7 +12,7 @@ use Rattle.text.specs.Gates.{Placed}
 use Rattle.text.specs.Verdict.{RangedHeader, Reading, lists, fault, itemOf, headerOf, withFirst, withSecond, firstItem, firstList, secondItem, secondList, afterHeader, readLines, readText, PlacedItem}
 use Rattle.text.specs.VerdictLaws.{item-placed, header-read}
 use Rattle.text.specs.Session.{Capacity, comparison, answer, register, holding}
-use Rattle.text.specs.VerdictRun.{qubits, Outcome, refused, rulingOf, judged, verdictOf, verdict}
+use Rattle.text.specs.VerdictRun.{Outcome, refused, rulingOf, judged, verdictOf, verdict}
 use Rattle.text.specs.GateShape.{gate-rising}
 use Rattle.text.specs.VerdictRunLaws.{AllFit, appliedAll, Limited, Runs, full, end, Both, session-runs}
 use Rattle.text.specs.declared.verdict.Item.{Item}

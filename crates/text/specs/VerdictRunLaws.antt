@@ -75,7 +75,7 @@ free-contracted k S A B p e = subst (Free k) (cont-meaning A B S []) (cont-free 
 free-renamed : {d : ℕ} (i k : ℕ) (A : Tensor d) → 1 ≤ k → k < d → Free (k - 1) A → (i ≡ k → ⊥) → (i ≡ k - 1 → ⊥) → Free i A → Free i (lowered k A)
 free-renamed i k A p q f n m g = subst (Free i) (low-meaning k A p q f []) (low-free-other [] k A p q f i n m g)
 
-all-free-renamed : {d : ℕ} (least q : ℕ) (qs : List ℕ) (A : Tensor d) → Rising d least qs → q < least → 3 * q + 2 < d → Free (3 * q + 1) A → AllFree qs A
+pub all-free-renamed : {d : ℕ} (least q : ℕ) (qs : List ℕ) (A : Tensor d) → Rising d least qs → q < least → 3 * q + 2 < d → Free (3 * q + 1) A → AllFree qs A
     → AllFree qs (lowered (3 * q + 2) A)
 all-free-renamed least q [] A r p l g f = tt
 all-free-renamed least q (x ∷ qs) A r p l g f =
@@ -95,14 +95,14 @@ set-more d least x w [] r p e s = tt
 set-more d least x w (q ∷ qs) r p e s =
     (bit-other (3 * x + 1) (3 * q + 1) w (λ u. omega arith) e ∙ s .0, set-more d (suc q) x w qs (r .2) (omega arith) e (s .1))
 
-middles-set : (d least : ℕ) (qs : List ℕ) → Rising d least qs → AllSet qs (bits (middles qs))
+pub middles-set : (d least : ℕ) (qs : List ℕ) → Rising d least qs → AllSet qs (bits (middles qs))
 unfolding middles
 middles-set d least [] r = tt
 middles-set d least (q ∷ qs) r =
     let e = middles-below d (suc q) (3 * q + 1) qs (r .2) (omega arith) in
     (bit-added (3 * q + 1) (middles qs) e, set-more d (suc q) q (middles qs) qs (r .2) (omega arith) e (middles-set d (suc q) qs (r .2)))
 
-all-free : {d : ℕ} (least : ℕ) (qs : List ℕ) (S : Bits) (A B : Tensor d) → Rising d least qs → AllSet qs S → AllFree qs (sumOver S (times A B))
+pub all-free : {d : ℕ} (least : ℕ) (qs : List ℕ) (S : Bits) (A B : Tensor d) → Rising d least qs → AllSet qs S → AllFree qs (sumOver S (times A B))
 all-free least [] S A B r s = tt
 all-free least (q ∷ qs) S A B r s = (free-contracted (3 * q + 1) S A B (omega (arith, r .1)) (s .0), all-free (suc q) qs S A B (r .2) (s .1))
 
@@ -183,7 +183,7 @@ runs-less : {d : ℕ} {c : Capacity} {P Q : Registers d → Type 0} {x : Outcome
 runs-less (full l) f = full l
 runs-less (end {t = t} p) f = end (f (t .registers) p)
 
-at-line-append : (line : ℕ) (xs ys : List Call) → atLine line (xs ++ ys) ≡ atLine line xs ++ atLine line ys
+pub at-line-append : (line : ℕ) (xs ys : List Call) → atLine line (xs ++ ys) ≡ atLine line xs ++ atLine line ys
 unfolding atLine
 at-line-append line [] ys = refl
 at-line-append line (x ∷ xs) ys = ap (λ l. (line, x) ∷ l) (at-line-append line xs ys)

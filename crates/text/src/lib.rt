@@ -1,5 +1,6 @@
 // Texts: lines read into calls, answers printed, verdict texts.
 pub mod answer;
+mod apply;
 mod args;
 pub mod call;
 pub mod engine;

@@ -1,4 +1,5 @@
 // The calls that set a register: the step, and then the register. Operands have been read.
+use crate::apply;
 use crate::call::Refusal;
 use crate::engine;
 use crate::engine::Engine;
@@ -19,8 +20,10 @@ ghost use Rattle.diagram.specs.FreeLaws.{Free};
 ghost use Rattle.diagram.specs.Meaning.{Valid};
 ghost use Rattle.diagram.specs.Engine.{tensorOf};
 ghost use Rattle.diagram.specs.Standing.{Standing};
+ghost use Rattle.text.specs.Gates.{Placed};
 ghost use Rattle.text.specs.Calls.{Ranged};
 ghost use Rattle.text.specs.Engine.{Settled, Responds};
+ghost use Rattle.text.specs.Apply.{applies};
 ghost use Rattle.text.specs.Respond.{Lowers};
 ghost use Rattle.text.specs.declared.call.Call.the-variants as call;
 
@@ -116,4 +119,22 @@ pub(crate) fn low(
         return engine::refuse(engine, Refusal::Depends);
     }
     lower(store, cache, engine, d, a, j)
+}
+
+// The gate g applied to a.
+pub(crate) fn apply(
+    store: &mut [u8],
+    cache: &mut [u64],
+    engine: Engine,
+    d: usize,
+    a: Edge,
+    g: Gate,
+) -> Reply
+    requires { ⌜ Standing (now cache) (now store) (engine .state) (engine .registers .all) ×
+        ((d < 16) × (Valid (engine .state .count) a × Placed 8 g)) ⌝ }
+    ensures { λ r. ⌜ Settled (now (cache .exit)) (now (store .entry)) (now (store .exit)) engine d
+        (applies g (tensorOf (now (store .entry)) (engine .state) a)) r ⌝ }
+{
+    let made = apply::apply(store, cache, engine.state, a, g);
+    engine::settle(store, cache, engine, d, made)
 }

@@ -1,21 +1,22 @@
-// The calls of a verdict's session, one after another until one is refused (document 01, "Verdicts").
+// The calls of a verdict's session until one is refused (document 01, "Verdicts"): one, or a gate's as one step.
 use crate::answer::Answer;
 use crate::call::Call;
 use crate::engine::Engine;
-use crate::qubits;
-use crate::qubits::Qubits;
+use crate::engine::Reply;
+use crate::operate;
 use crate::respond;
+use diagram::collect;
 use diagram::gate::Gate;
+use diagram::registers;
+use diagram::registers::Held;
 ghost use mathlib.Core.Path.{_≡_};
 ghost use mathlib.Core.List.{[], _∷_};
 ghost use Prim.Native.Nat.{_<_};
 ghost use Rattle.diagram.specs.Standing.{Standing};
 ghost use Rattle.text.specs.Gates.{Placed};
 ghost use Rattle.text.specs.Calls.{Ranged};
-ghost use Rattle.text.specs.VerdictRun.{lows, gateCalls};
-ghost use Rattle.text.specs.Perform.{isNo, Extends};
-ghost use Rattle.text.specs.Qubits.{listed, Below};
-ghost use Rattle.text.specs.declared.call.Call.the-variants as call;
+ghost use Rattle.text.specs.VerdictRun.{gateCalls};
+ghost use Rattle.text.specs.Perform.{isNo, Extends, Tidied, Finishes};
 
 // Whether a call was refused, and what the calls before it leave.
 pub struct Run {
@@ -51,53 +52,46 @@ pub(crate) fn call(store: &mut [u8], cache: &mut [u64], run: Run, call: Call) ->
     Run { refused, engine }
 }
 
-// "each gate .. into 2, `cont 0 2 0` over the middles of its qubits"
-fn contracted(store: &mut [u8], cache: &mut [u64], run: Run, r: usize, g: Gate, m: usize) -> Run
-    requires { ⌜ Standing (now cache) (now store) (run .engine .state) (run .engine .registers .all) × ((r < 2) × (Placed 8 g × (m < 16777216))) ⌝ }
-    ensures { λ x. ⌜ Extends (now (store .entry)) (now (cache .exit)) (now (store .exit)) run (call.Gate 2 g ∷ call.Cont r 2 r m ∷ []) x ⌝ }
-{
-    let made = call(store, cache, run, Call::Gate(2, g));
-    call(store, cache, made, Call::Cont(r, 2, r, m))
-}
-
-fn rename(store: &mut [u8], cache: &mut [u64], run: Run, r: usize, q: usize) -> Run
-    requires { ⌜ Standing (now cache) (now store) (run .engine .state) (run .engine .registers .all) × ((r < 2) × (q < 8)) ⌝ }
-    ensures { λ x. ⌜ Extends (now (store .entry)) (now (cache .exit)) (now (store .exit)) run (lows r (q ∷ [])) x ⌝ }
-{
-    let k = 3 * q + 2;
-    call(store, cache, run, Call::Low(r, r, k))
-}
-
-// "`low` of their fresh indices in rising order"
-fn lowered(store: &mut [u8], cache: &mut [u64], run: Run, r: usize, qubits: Qubits) -> Run
-    requires { ⌜ Standing (now cache) (now store) (run .engine .state) (run .engine .registers .all) × ((r < 2) × Below qubits) ⌝ }
-    ensures { λ x. ⌜ Extends (now (store .entry)) (now (cache .exit)) (now (store .exit)) run (lows r (listed qubits)) x ⌝ }
-{
-    match qubits {
-        Qubits::One(q) => rename(store, cache, run, r, q),
-        Qubits::Two(p, q) => {
-            let first = rename(store, cache, run, r, p);
-            rename(store, cache, first, r, q)
-        }
-    }
-}
-
 // "`drop 2`, `collect`"
-fn tidied(store: &mut [u8], cache: &mut [u64], run: Run) -> Run
-    requires { ⌜ Standing (now cache) (now store) (run .engine .state) (run .engine .registers .all) ⌝ }
-    ensures { λ x. ⌜ Extends (now (store .entry)) (now (cache .exit)) (now (store .exit)) run (call.Drop 2 ∷ call.Collect ∷ []) x ⌝ }
+fn tidied(store: &mut [u8], cache: &mut [u64], engine: Engine) -> Engine
+    requires { ⌜ Standing (now cache) (now store) (engine .state) (engine .registers .all) ⌝ }
+    ensures { λ r. ⌜ Tidied (now (store .entry)) (now (cache .exit)) (now (store .exit)) engine r ⌝ }
 {
-    let dropped = call(store, cache, run, Call::Drop(2));
-    call(store, cache, dropped, Call::Collect)
+    let registers = registers::clear(engine.registers, 2);
+    let swept = collect::collect(store, cache, engine.state, registers);
+    let state = swept.state;
+    let registers = swept.registers;
+    Engine { state, registers }
 }
 
-// A gate of the list in register r.
+// What follows the gate's step, unless it was refused.
+fn finished(store: &mut [u8], cache: &mut [u64], reply: Reply) -> Run
+    requires { ⌜ Standing (now cache) (now store) (reply .engine .state) (reply .engine .registers .all) ⌝ }
+    ensures { λ x. ⌜ Finishes (now (store .entry)) (now (cache .exit)) (now (store .exit)) reply x ⌝ }
+{
+    let answer = reply.answer;
+    let engine = reply.engine;
+    let refused = is_no(answer);
+    if refused {
+        return Run { refused, engine };
+    }
+    let engine = tidied(store, cache, engine);
+    Run { refused, engine }
+}
+
+// A gate of the list in register r. With nothing there, its `cont` would be refused.
 pub(crate) fn gate(store: &mut [u8], cache: &mut [u64], run: Run, r: usize, g: Gate) -> Run
     requires { ⌜ Standing (now cache) (now store) (run .engine .state) (run .engine .registers .all) × ((r < 2) × Placed 8 g) ⌝ }
     ensures { λ x. ⌜ Extends (now (store .entry)) (now (cache .exit)) (now (store .exit)) run (gateCalls r g) x ⌝ }
 {
-    let qubits = qubits::of(g);
-    let made = contracted(store, cache, run, r, g, qubits::middles(qubits));
-    let renamed = lowered(store, cache, made, r, qubits);
-    tidied(store, cache, renamed)
+    if run.refused {
+        return run;
+    }
+    let engine = run.engine;
+    let Held::Edge(x) = registers::get(engine.registers, r) else {
+        let refused = true;
+        return Run { refused, engine };
+    };
+    let reply = operate::apply(store, cache, engine, r, x, g);
+    finished(store, cache, reply)
 }

@@ -1,10 +1,10 @@
 use borrow.Author.Needs.{needs}
-use Rattle.text.specs.Perform.{extends-low}
-use Rattle.text.proofs.perform.rename.Statement.{statement}
-use Rattle.text.proofs.perform.rename.Tie as tie
+use Rattle.text.specs.Apply.{rename-works}
+use Rattle.text.proofs.apply.rename.Statement.{statement}
+use Rattle.text.proofs.apply.rename.Tie as tie
 
 returns : tie.Need-returns
-returns c = search (needs, extends-low)
+returns c = search (needs, rename-works)
 
 pub rename-spec : {M : Type 1} → statement M
 rename-spec =

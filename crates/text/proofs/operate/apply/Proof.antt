@@ -1,0 +1,15 @@
+use borrow.Author.Needs.{needs}
+use Rattle.text.specs.Engine.{works-leaves, settled-works}
+use Rattle.text.proofs.operate.apply.Statement.{statement}
+use Rattle.text.proofs.operate.apply.Tie as tie
+
+settle-requires : tie.Need-settle-requires
+settle-requires c κs = search (needs, works-leaves)
+
+returns : tie.Need-returns
+returns c = search (needs, settled-works)
+
+pub apply-spec : {M : Type 1} → statement M
+apply-spec = tie.close
+    (tie.spec
+    (λ c κs. search needs) settle-requires (λ c. search needs) (λ c. search needs) returns)
