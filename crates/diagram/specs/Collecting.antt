@@ -13,8 +13,8 @@ use Rattle.diagram.specs.Tally.{Set, member, keeps, collect, filled}
 use Rattle.diagram.specs.Node.{nodeAt}
 use Rattle.diagram.specs.Listed.{listed}
 use Rattle.diagram.specs.Meaning.{tensorAt, tensors}
-use Rattle.diagram.specs.Canonical.{Placed, Canonical}
-use Rattle.diagram.specs.Engine.{nodesOf, setOf, nodes-length, node-at, Sound}
+use Rattle.diagram.specs.Canonical.{Canonical}
+use Rattle.diagram.specs.Engine.{nodesOf, setOf, nodes-length, node-placed, Sound}
 use Rattle.diagram.specs.Cache.{Past, Stepped}
 use Rattle.diagram.specs.Restore.{Left, Restored}
 use Rattle.diagram.specs.Compact.{rank, rank-none, rank-le, survivors, Closed, Compacted, forward, forward-zero, forward-node}
@@ -135,14 +135,10 @@ unfolding nodesOf
 nodes-of g = g .held .nodes
 
 -- node n's children stand before it
-sound-placed : {s : List ℕ} {st : State} → Sound s st → (n : ℕ) → 1 ≤ n → n ≤ st .count → Placed (setOf s st) (n - 1) (nodeAt s n)
-unfolding setOf
-sound-placed {s} {st} h n p q = rw (node-at indices s st n p q) at (h .nodes .each n p (rw (nodes-length s st) q))
-
 pub sound-down : {s : List ℕ} {st : State} → Sound s st → Down (nodeAt s) (st .count)
 sound-down {s} h = record {
-  low = λ n p q. (let w : nodeAt s n .low .node ≤ n - 1 = sound-placed h n p q .low .within in omega arith);
-  high = λ n p q. (let w : nodeAt s n .high .node ≤ n - 1 = sound-placed h n p q .high .within in omega arith);
+  low = λ n p q. (let w : nodeAt s n .low .node ≤ n - 1 = node-placed h n p q .low .within in omega arith);
+  high = λ n p q. (let w : nodeAt s n .high .node ≤ n - 1 = node-placed h n p q .high .within in omega arith);
 }
 
 -- the swept store, before its table is made anew

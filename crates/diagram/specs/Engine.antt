@@ -1,20 +1,21 @@
 -- What a store's bytes mean, when they are sound, and what each operation on a store promises.
 use mathlib.Core.Path.{_≡_, ap, subst, _∙_}
+use mathlib.Core.Bool.{true, false}
 use mathlib.Core.List.{List}
 use mathlib.Core.Option.{some}
-use Prim.Native.Nat.{ℕ, zero, suc, _≤_, _<_}
+use Prim.Native.Nat.{ℕ, zero, suc, _-_, _≤_, _<_}
 use native.Mathlib.Omega.{arith}
 use lib.ListN.{length}
 use Rattle.field.specs.Weight.{Weight, 0W}
-use Rattle.diagram.specs.Tensor.{indices, Tensor, constant, scale, top, Normal}
+use Rattle.diagram.specs.Tensor.{indices, Tensor, constant, scale, top, fix, Normal}
 use Rattle.diagram.specs.TensorLaws.{isZero-constant}
 use Rattle.diagram.specs.Tally.{Set, Step}
 use Rattle.diagram.specs.Sets.{Grown, grown-refl}
 use Rattle.diagram.specs.Node.{capacity, nodeAt, Alike, alike-node, edge-eq}
 use Rattle.diagram.specs.Listed.{listed, listed-length, listed-at}
 use Rattle.diagram.specs.Make.{Stored, alike-stored}
-use Rattle.diagram.specs.Meaning.{tensorAt, edgeIn, tensors, blank, nodeIn, level, Valid, tensors-length}
-use Rattle.diagram.specs.Canonical.{Canonical}
+use Rattle.diagram.specs.Meaning.{tensorAt, edgeIn, nodeTensor, tensors, blank, nodeIn, level, Valid, tensors-length}
+use Rattle.diagram.specs.Canonical.{Placed, Canonical, placed-low, placed-high}
 use Rattle.diagram.specs.CanonicalLaws as laws
 use Rattle.diagram.specs.declared.node.Node.{Node}
 use Rattle.diagram.specs.declared.node.Edge as edges
@@ -126,6 +127,22 @@ module _ {s : List ℕ} {st : State} (h : Sound s st) where
   unfolding setOf
   node-top n p q =
       laws.node-top indices (nodesOf s st) (h .nodes) n p (within q) ∙ ap (λ (x : Node). some (x .index)) (node-at indices s st n p q)
+
+  -- a node is in normal form, its children are nodes with smaller numbers
+  pub node-placed : (n : ℕ) → 1 ≤ n → n ≤ st .count → Placed (setOf s st) (n - 1) (nodeAt s n)
+  unfolding setOf
+  node-placed n p q = rw (node-at indices s st n p q) at (h .nodes .each n p (within q))
+
+  node-meaning : (n : ℕ) → 1 ≤ n → n ≤ st .count → tensorAt (setOf s st) n ≡ nodeTensor (setOf s st) (nodeAt s n)
+  unfolding setOf
+  node-meaning n p q = rw (node-at indices s st n p q) at (h .nodes .meaning n p (within q))
+
+  -- "At 0 and 1 of its index a node's tensor is the low and high weight times the tensor of that edge's node"
+  pub node-low : (n : ℕ) → 1 ≤ n → n ≤ st .count → fix (nodeAt s n .index) false (tensorAt (setOf s st) n) ≡ edgeIn (setOf s st) (nodeAt s n .low)
+  node-low n p q = ap (fix (nodeAt s n .index) false) (node-meaning n p q) ∙ placed-low (node-placed n p q)
+
+  pub node-high : (n : ℕ) → 1 ≤ n → n ≤ st .count → fix (nodeAt s n .index) true (tensorAt (setOf s st) n) ≡ edgeIn (setOf s st) (nodeAt s n .high)
+  node-high n p q = ap (fix (nodeAt s n .index) true) (node-meaning n p q) ∙ placed-high (node-placed n p q)
 
   -- "No node's tensor is a multiple of another node's."
   pub node-multiple : (n m : ℕ) (f : Weight) → n ≤ st .count → m ≤ st .count → tensorAt (setOf s st) n ≡ scale f (tensorAt (setOf s st) m) → n ≡ m

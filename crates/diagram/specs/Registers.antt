@@ -1,5 +1,5 @@
 -- The registers (document 01, "Nodes"): "A register holds a weight and a node number." What they hold, as tensors.
-use mathlib.Core.Path.{_≡_, refl, ap, _∙_}
+use mathlib.Core.Path.{_≡_, refl, ap, sym, _∙_}
 use mathlib.Core.Bool.{Bool, true, false, cond, false≢true}
 use mathlib.Core.List.{List, [], _∷_, _++_}
 use mathlib.Core.Option.{Option, none, some}
@@ -57,14 +57,32 @@ unfoldable pub edgesOf : List Register → List Edge
 edgesOf [] = []
 edgesOf (r ∷ rs) = cond (occupied r) (r .edge ∷ edgesOf rs) (edgesOf rs)
 
+-- an empty register's words are 0
+abbrev pub EmptyIsZero : Register → Type 0
+EmptyIsZero r = occupied r ≡ false → r ≡ emptyRegister
+
+abbrev pub AllEmptyZero : List Register → Type 0
+AllEmptyZero [] = Unit {0}
+AllEmptyZero (r ∷ rs) = EmptyIsZero r × AllEmptyZero rs
+
 -- sixteen registers, the filled ones with edges to nodes 0 .. m
 pub record Registered (m : ℕ) (rs : List Register) : Type 0 where
   pub sixteen : length rs ≡ 16
   pub valid : AllValid m (edgesOf rs)
+  pub empty : AllEmptyZero rs
+
+zero-none : (n : ℕ) → AllEmptyZero (replicate n emptyRegister)
+zero-none zero = tt
+zero-none (suc n) = (λ e. refl, zero-none n)
 
 pub registered-none : (m : ℕ) → Registered m emptied
 unfolding edgesOf
-registered-none m = record { sixteen = refl; valid = tt }
+registered-none m = record { sixteen = refl; valid = tt; empty = zero-none 16 }
+
+pub register-empty : (rs : List Register) (i : ℕ) → AllEmptyZero rs → EmptyIsZero (getD rs i emptyRegister)
+register-empty [] i b = λ e. refl
+register-empty (r ∷ rs) zero b = b .0
+register-empty (r ∷ rs) (suc i) b = register-empty rs i (b .1)
 
 pub filled-edges : {d : ℕ} (ts : Set d) (rs : List Register) → filled (holdsAll ts rs) ≡ tensorsOf ts (edgesOf rs)
 unfolding filled holdsAll holds edgesOf tensorsOf
@@ -135,13 +153,26 @@ valid-set m (x ∷ rs) (suc i) r v w =
     valid-cons m (occupied x) (x .edge) (edgesOf (set rs i r)) (valid-head m (occupied x) (x .edge) (edgesOf rs) w)
     (valid-set m rs i r v (valid-tail m (occupied x) (x .edge) (edgesOf rs) w))
 
+zero-set : (rs : List Register) (i : ℕ) (r : Register) → EmptyIsZero r → AllEmptyZero rs → AllEmptyZero (set rs i r)
+zero-set [] i r p b = tt
+zero-set (x ∷ rs) zero r p b = (p, b .1)
+zero-set (x ∷ rs) (suc i) r p b = (b .0, zero-set rs i r p (b .1))
+
 pub registered-put : {m : ℕ} {rs : List Register} (i : ℕ) {e : Edge} → Registered m rs → Valid m e → Registered m (set rs i (filledWith e))
 registered-put {m} {rs} i {e} g v =
-    record { sixteen = length-set rs i (filledWith e) ∙ g .sixteen; valid = valid-set m rs i (filledWith e) (λ _. v) (g .valid) }
+    record {
+      sixteen = length-set rs i (filledWith e) ∙ g .sixteen;
+      valid = valid-set m rs i (filledWith e) (λ _. v) (g .valid);
+      empty = zero-set rs i (filledWith e) (λ q. absurd (false≢true (sym q))) (g .empty);
+    }
 
 pub registered-clear : {m : ℕ} {rs : List Register} (i : ℕ) → Registered m rs → Registered m (set rs i emptyRegister)
 registered-clear {m} {rs} i g =
-    record { sixteen = length-set rs i emptyRegister ∙ g .sixteen; valid = valid-set m rs i emptyRegister (λ e. absurd (false≢true e)) (g .valid) }
+    record {
+      sixteen = length-set rs i emptyRegister ∙ g .sixteen;
+      valid = valid-set m rs i emptyRegister (λ e. absurd (false≢true e)) (g .valid);
+      empty = zero-set rs i emptyRegister (λ q. refl) (g .empty);
+    }
 
 -- more nodes
 
@@ -150,7 +181,7 @@ all-more m n [] p v = tt
 all-more m n (e ∷ es) p v = (valid-more n p (v .0), all-more m n es p (v .1))
 
 pub registered-more : {m : ℕ} {rs : List Register} (n : ℕ) → m ≤ n → Registered m rs → Registered n rs
-registered-more {m} {rs} n p g = record { sixteen = g .sixteen; valid = all-more m n (edgesOf rs) p (g .valid) }
+registered-more {m} {rs} n p g = record { sixteen = g .sixteen; valid = all-more m n (edgesOf rs) p (g .valid); empty = g .empty }
 
 pub holds-kept : {d m : ℕ} {ts us : Set d} (rs : List Register) → m ≤ length ts → AllValid m (edgesOf rs) → Grown ts us → holdsAll us rs ≡ holdsAll ts rs
 unfolding holdsAll holds edgesOf

@@ -1,7 +1,7 @@
 -- The registers after a collection: the same weights, and their nodes' new numbers.
 use mathlib.Core.Path.{_≡_, refl, ap, ap₂, _∙_}
 use mathlib.Core.Logic.{_≢_}
-use mathlib.Core.Bool.{Bool, true, false, cond}
+use mathlib.Core.Bool.{Bool, true, false, cond, true≢false}
 use mathlib.Core.List.{List, [], _∷_}
 use mathlib.Core.Option.{none, some}
 use Prim.Native.Nat.{ℕ, zero, suc, _+_, _≤_, _<_}
@@ -13,7 +13,7 @@ use Rattle.diagram.specs.Tensor.{scale}
 use Rattle.diagram.specs.Tally.{Set}
 use Rattle.diagram.specs.Meaning.{tensorAt, edgeIn}
 use Rattle.diagram.specs.Reaching.{AllMarked, AllValid}
-use Rattle.diagram.specs.Registers.{occupied, emptyRegister, filledWith, holds, holdsAll, weightsOf, edgesOf, Registered}
+use Rattle.diagram.specs.Registers.{occupied, emptyRegister, filledWith, holds, holdsAll, weightsOf, edgesOf, EmptyIsZero, AllEmptyZero, Registered}
 use Rattle.diagram.specs.declared.registers.Register.{Register}
 
 -- a filled register with its node renumbered
@@ -140,5 +140,18 @@ module _ {d : ℕ} (ts us : Set d) (g : ℕ → ℕ) (a : ℕ → ℕ) (m k : �
           ((record { small = v .0 .small; within = within (r .edge .node) (v .0 .within); zero = λ z. (let n : r .edge .node ≡ 0 = v .0 .zero z in rw n zeroed) }), ih (v .1))
       go false q v ih = rw (q, q) (ih v)
 
+  zero-renumber : (r : Register) → EmptyIsZero r → EmptyIsZero (renumber g r)
+  unfolding renumber
+  zero-renumber r p = go (occupied r) refl
+    where
+      go : (b : Bool) → occupied r ≡ b → EmptyIsZero (cond b (filledWith (record { weight = r .edge .weight; node = g (r .edge .node) })) r)
+      go true q = λ e. absurd (true≢false e)
+      go false q = p
+
+  renumber-zero : (rs : List Register) → AllEmptyZero rs → AllEmptyZero (renumberAll g rs)
+  unfolding renumberAll
+  renumber-zero [] b = tt
+  renumber-zero (r ∷ rs) b = (zero-renumber r (b .0), renumber-zero rs (b .1))
+
   pub renumber-registered : (rs : List Register) → Registered m rs → Registered k (renumberAll g rs)
-  renumber-registered rs r = record { sixteen = all-length g rs ∙ r .sixteen; valid = renumber-valid rs (r .valid) }
+  renumber-registered rs r = record { sixteen = all-length g rs ∙ r .sixteen; valid = renumber-valid rs (r .valid); empty = renumber-zero rs (r .empty) }

@@ -56,7 +56,7 @@ module _ {line : Bytes} {q : Squeeze} {e : Engine} {s c' s' o o' : List ℕ} {r 
 
     reply-answer : take (r .bytes) o' ≡ printed (replyTo seen s e .0)
     unfolding more begunAt
-    reply-answer = printed-front (m .agrees) ∙ ap (λ (x : Run indices). x .output) one-run
+    reply-answer = printed-front (m .agrees .ends) ∙ ap (λ (x : Run indices). x .output) one-run
 
     reply-tally : tallyOf s' (r .engine) ≡ replyTo seen s e .1
     unfolding more
@@ -65,6 +65,6 @@ module _ {line : Bytes} {q : Squeeze} {e : Engine} {s c' s' o o' : List ℕ} {r 
   pub replied : Replied line q e s c' s' o' r
   replied = record {
     answered = record { standing = m .standing; tally = reply-tally };
-    within = printed-within (m .agrees);
+    within = printed-within (m .agrees .ends);
     answer = reply-answer;
   }

@@ -1,28 +1,29 @@
 -- What the engine keeps between lines gives demand 3's sentences.
-use mathlib.Core.Path.{_≡_, refl, ap, sym, _∙_}
+use mathlib.Core.Path.{_≡_, refl, ap, sym, subst, _∙_}
 use mathlib.Core.Logic.{_↔_}
 use mathlib.Core.Bool.{Bool, true, false, cond}
-use mathlib.Core.List.{List}
+use mathlib.Core.List.{List, []}
 use mathlib.Core.Option.{Option, none, some}
 use Prim.Native.Nat.{ℕ, _+_, _≤_, _<_}
 use native.Mathlib.Omega.{arith}
+use native.Mathlib.Decide.{ℕ-discrete}
 use lib.ListN.{length, take, drop, getD, length-append}
 use lib.Seq.{take-append-seam}
 use Rattle.diagram.specs.Weights.{Weight, toWeight}
-use Rattle.diagram.specs.Tensor.{Tensor, indices, scale}
+use Rattle.diagram.specs.Tensor.{Tensor, indices, indices-24, scale}
 use Rattle.diagram.specs.ValueLaws.{agree-exactly}
 use Rattle.diagram.specs.Node.{edge-eq}
 use Rattle.diagram.specs.Meaning.{tensorAt, edgeIn, Valid}
-use Rattle.diagram.specs.Engine.{nodesOf, setOf, tensorOf, node-multiple, edge-unique}
-use Rattle.diagram.specs.Registers.{occupied, emptyRegister, holds, holdsAll, holds-at, register-valid}
+use Rattle.diagram.specs.Engine.{nodesOf, setOf, tensorOf, node-normal, node-placed, node-low, node-high, node-multiple, edge-unique}
+use Rattle.diagram.specs.Registers.{occupied, emptyRegister, holds, holdsAll, holds-at, register-valid, register-empty}
 use Rattle.diagram.specs.Standing.{Standing}
 use Rattle.diagram.specs.declared.node.Edge.{Edge}
 use Rattle.diagram.specs.declared.make.State.{State}
 use Rattle.diagram.specs.declared.registers.Register.{Register}
 use Rattle.text.specs.Text.{Bytes}
 use Rattle.text.specs.Answers.{written}
-use Rattle.text.specs.Session.{Run}
-use Rattle.text.specs.Agrees.{nodeTensors, isFilled, Agree, Agrees}
+use Rattle.text.specs.Session.{Capacity, Run, run}
+use Rattle.text.specs.Agrees.{nodeTensors, isFilled, Agree, IsNode, Agrees, OneLine, Passes, start, line, AgreesThroughout, Point, Between}
 use Rattle.text.specs.declared.progress.Session.{Session}
 
 pub node-tensors : (s : List ℕ) (st : State) → nodeTensors s (st .count) ≡ setOf s st
@@ -53,6 +54,27 @@ module _ {c s : List ℕ} {st : State} {rs : List Register} (p : Standing c s st
   unfolding tensorOf edgeIn
   weight-times-node i q = rw (node-tensors s st) (filled-tensor i q)
 
+  -- the words of the registers
+
+  pub filled-valid : (i : ℕ) → i < 16 → occupied (at rs i) ≡ true → Valid (st .count) (at rs i .edge)
+  filled-valid i l q = register-valid (st .count) rs i (p .registers .valid) (omega (arith, p .registers .sixteen)) q
+
+  pub empty-zero : (i : ℕ) → occupied (at rs i) ≡ false → at rs i ≡ emptyRegister
+  empty-zero i q = register-empty rs i (p .registers .empty) q
+
+  -- the words of the nodes
+  pub is-node : (n : ℕ) → 1 ≤ n → n ≤ st .count → IsNode s (nodeTensors s (st .count)) n
+  is-node n k l =
+      let x = node-placed (p .held) n k l in
+      rw (node-tensors s st) record {
+        index = rw indices-24 at (x .index);
+        low = x .low;
+        high = x .high;
+        at-0 = node-low (p .held) n k l;
+        at-1 = node-high (p .held) n k l;
+        normal = node-normal (p .held) n k l;
+      }
+
   unfoldable tensorIn : Option (Tensor indices) → Tensor indices → Tensor indices
   tensorIn none T = T
   tensorIn (some A) T = A
@@ -67,7 +89,7 @@ module _ {c s : List ℕ} {st : State} {rs : List Register} (p : Standing c s st
     is-tensor = ap (λ o. tensorIn o A) (sym (filled-tensor i full) ∙ q)
 
     valid : Valid (st .count) (at rs i .edge)
-    valid = register-valid (st .count) rs i (p .registers .valid) (omega (arith, p .registers .sixteen)) full
+    valid = filled-valid i l full
 
   pub same-exactly : (i j : ℕ) → i < 16 → j < 16 → (A B : Tensor indices) → holding i ≡ some A → holding j ≡ some B
       → ((at rs i .edge .weight ≡ at rs j .edge .weight) × (at rs i .edge .node ≡ at rs j .edge .node)) ↔ Agree A B
@@ -93,3 +115,38 @@ module _ {s o o' : Bytes} {r : Session} {t : Run indices} (a : Agrees s o o' r t
   pub printed-within : r .bytes ≤ length o'
   unfolding written
   printed-within = rw (a .printed) (omega (arith, a .bytes, length-append (t .output) (drop (0 + length (t .output)) o)))
+
+-- what a run passes
+
+module _ {c : Capacity} {o : Bytes} {ls : List Bytes} {t : Run indices} where
+  pub passes-agrees : {s o' : Bytes} {r : Session} → Passes c o ls t s o' r → Agrees s o o' r (run c (length o) (take (r .lines) ls) t)
+  unfolding run
+  passes-agrees (start {s} {r} z a) = subst (λ n. Agrees s o o r (run c (length o) (take n ls) t)) (sym z) a
+  passes-agrees (line b l a) = a
+
+  passes-point : {s o' : Bytes} {r : Session} → Passes c o ls t s o' r → Point c o ls t (r .lines)
+  passes-point {s} {o'} {r} b = record { store = s; output = o'; result = r; lines = refl; agrees = passes-agrees b }
+
+  -- "at the start and after each line answered"
+  pub after-each-line : {s o' : Bytes} {r : Session} → Passes c o ls t s o' r → (j : ℕ) → j ≤ r .lines → Point c o ls t j
+  after-each-line (start {r = r} z a) j p = let e : r .lines ≡ j = omega arith in subst (Point c o ls t) e (passes-point (start z a))
+  after-each-line (line {r' = r'} b l a) j p = elim (ℕ-discrete (r' .lines) j) [
+    | yes e ↦ subst (Point c o ls t) e (passes-point (line b l a))
+    | no n ↦ after-each-line b j (omega (arith, l .lines))
+  ]
+
+  -- "a refused line changes no register and leaves no new node", for each line that a session answers
+  pub each-line : {s o' : Bytes} {r : Session} → Passes c o ls t s o' r → (j : ℕ) → j < r .lines → Between c o ls t j
+  unfolding passes-point
+  each-line (start z a) j p = absurd (omega arith)
+  each-line (line {r = r} {s' = s'} {o''} {r'} b l a) j p = elim (ℕ-discrete (r .lines) j) [
+    | yes e ↦ subst (Between c o ls t) e (record {
+      before = passes-point b;
+      after = record { store = s'; output = o''; result = r'; lines = l .lines; agrees = subst (λ n. Agrees s' o o'' r' (run c (length o) (take n ls) t)) (l .lines) a };
+      one = l;
+    })
+    | no n ↦ each-line b j (omega (arith, l .lines))
+  ]
+
+pub session-within : {c : Capacity} {ls : List Bytes} {t : Run indices} {s o o' : Bytes} {r : Session} → AgreesThroughout c ls t s o o' r → r .bytes ≤ length o'
+session-within a = printed-within (a .ends)

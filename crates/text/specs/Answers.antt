@@ -1,6 +1,6 @@
 -- Answers (document 01, "Session calls"): what is printed.
 use mathlib.Core.Path.{_≡_}
-use mathlib.Core.Bool.{cond}
+use mathlib.Core.Bool.{Bool, true, false, cond}
 use mathlib.Core.List.{List, [], _∷_, _++_}
 use Prim.Native.Nat.{ℕ, zero, suc, _+_, _/_, _%_, _≤_}
 use lib.Dec.{ltb}
@@ -35,6 +35,15 @@ printed (Value w) = answered (bytes "v" ∷ decimal w ∷ [])
 printed Same = answered (bytes "same" ∷ [])
 printed (Factor f) = answered (bytes "factor" ∷ decimal f ∷ [])
 printed Differ = answered (bytes "differ" ∷ [])
+
+-- is the line refused?
+abbrev pub isNo : Answer → Bool
+isNo (Ok n) = false
+isNo (No r) = true
+isNo (Value w) = false
+isNo Same = false
+isNo (Factor f) = false
+isNo Differ = false
 
 -- The numbers of an answer are weights or a node count, so at most 65536.
 abbrev pub Small : Answer → Type 0

@@ -1,5 +1,6 @@
 -- What the engine holds between two lines, read as a tally, and how a call that sets a register ends.
 use mathlib.Core.Path.{_≡_, ap, sym, subst, _∙_}
+use mathlib.Core.Bool.{true, false≢true}
 use mathlib.Core.List.{List}
 use Prim.Native.Nat.{ℕ, _≤_, _<_}
 use native.Mathlib.Omega.{arith}
@@ -22,8 +23,9 @@ use Rattle.diagram.specs.declared.join.Made.{Made}
 use Rattle.diagram.specs.declared.join.Made.the-variants as made
 use Rattle.diagram.specs.declared.registers.Register.{Register}
 use Rattle.diagram.specs.declared.registers.Registers.{Registers}
-use Rattle.text.specs.Answers.{Small}
+use Rattle.text.specs.Answers.{isNo, Small}
 use Rattle.text.specs.Session.{most, Tally, start, count, refuse, accept, settle, answer}
+use Rattle.text.specs.Agrees.{Unchanged}
 use Rattle.text.specs.declared.answer.Answer.the-variants.{Ok, No}
 use Rattle.text.specs.declared.call.Refusal.{Refusal}
 use Rattle.text.specs.declared.call.Refusal.the-variants.{Full}
@@ -51,6 +53,11 @@ pub record RollsBack (c' s s' : List ℕ) (e : Engine) (r : Reply) : Type 0 wher
   pub restored : Restored c' s s' (e .state) (r .engine .state)
   pub registers : r .engine .registers .all ≡ e .registers .all
 
+-- "a refused line changes no register and leaves no new node"
+abbrev pub RefusedUnchanged : List ℕ → List ℕ → Engine → Reply → Type 0
+RefusedUnchanged s s' e r =
+    isNo (r .answer) ≡ true → Unchanged s s' (e .state .count) (r .engine .state .count) (e .registers .all) (r .engine .registers .all)
+
 -- what a step that did not fit leaves can be rolled back
 pub record Leaves (c s : List ℕ) (st : State) (m : Made) : Type 0 where
   pub left : m ≡ made.Full → Left c s st
@@ -60,6 +67,7 @@ pub record Settled (c' s s' : List ℕ) (e : Engine) (d : ℕ) (f : Step indices
   pub standing : Standing c' s' (r .engine .state) (r .engine .registers .all)
   pub small : Small (r .answer)
   pub is : settle (most (capacity s)) d (f (setOf s (e .state))) (tallyOf s e) ≡ (r .answer, tallyOf s' (r .engine))
+  pub refused : RefusedUnchanged s s' e r
 
 -- whatever step made m, over the store s₀ before it
 pub record Settles (c s c' s' : List ℕ) (e : Engine) (d : ℕ) (m : Made) (r : Reply) : Type 0 where
@@ -70,6 +78,7 @@ pub record Responds (c' s s' : List ℕ) (e : Engine) (x : Call) (r : Reply) : T
   pub standing : Standing c' s' (r .engine .state) (r .engine .registers .all)
   pub small : Small (r .answer)
   pub is : answer (most (capacity s)) x (tallyOf s e) ≡ (r .answer, tallyOf s' (r .engine))
+  pub refused : RefusedUnchanged s s' e r
 
 -- the same for a call that reads the store and the cache at most, over every cache; and for one that reads neither
 pub record Observes (s : List ℕ) (e : Engine) (x : Call) (r : Reply) : Type 0 where
@@ -107,6 +116,11 @@ rolls-back {c'} {s} {s'} {e} b q f = record {
   registers = ap (λ (n : Engine). n .registers .all) (f .engine) ∙ ap (λ (n : Registers). n .all) q;
 }
 
+pub nodes-unchanged : {s s' : List ℕ} (st st' : State) {rs rs' : List Register} → nodesOf s' st' ≡ nodesOf s st → rs' ≡ rs
+    → Unchanged s s' (st .count) (st' .count) rs rs'
+unfolding nodesOf
+nodes-unchanged st st' p q = record { nodes = p; registers = q }
+
 pub settles-full : {c s c' s' : List ℕ} {e : Engine} {d : ℕ} {m : Made} {r : Reply} → m ≡ made.Full → RollsBack c' s s' e r → Settles c s c' s' e d m r
 settles-full {c} {s} {c'} {s'} {e} {d} {m} {r} q b = record { on = on }
   where
@@ -115,6 +129,7 @@ settles-full {c} {s} {c'} {s'} {e} {d} {m} {r} q b = record { on = on }
       standing = rw (b .registers) (standing-restored (p .registers) (b .restored));
       small = rw (b .answer) tt;
       is = rw (b .answer) (settle-over s' (r .engine) d (works-over f m w q .over) (b .restored .kept) (b .registers));
+      refused = λ no. nodes-unchanged (e .state) (r .engine .state) (b .restored .kept ∙ works-over f m w q .over .kept) (b .registers);
     }
 
 pub settles-put : {c s : List ℕ} {e : Engine} {d : ℕ} {m : Made} {x : Edge} {t : State} {rs : Registers} → m ≡ made.Edge x t
@@ -130,6 +145,7 @@ settles-put {c} {s} {e} {d} {m} {x} {t} {rs} q b = record { on = on }
           standing = standing-works p f m d b w q;
           small = omega (arith, n .done .held .stored .numbered);
           is = settle-done d (p .registers) (n .done) b;
+          refused = λ no. absurd (false≢true no);
         }
 
 -- a step's answer can be settled

@@ -1,5 +1,5 @@
 -- The calls for programs in other languages: a result as words in a lent slice.
-use mathlib.Core.Path.{_≡_, refl, sym, _∙_}
+use mathlib.Core.Path.{_≡_, refl, ap, sym, _∙_}
 use mathlib.Core.Bool.{Bool, true, false, cond}
 use mathlib.Core.List.{List, [], _∷_, _++_}
 use Prim.Native.Nat.{ℕ, zero, suc, _+_, _*_, _≤_, _<_}
@@ -10,9 +10,10 @@ use Rattle.diagram.specs.Tensor.{indices}
 use Rattle.diagram.specs.Node.{capacity}
 use Rattle.diagram.specs.Registers.{occupied, emptyRegister}
 use Rattle.diagram.specs.declared.registers.Register.{Register}
+use Rattle.text.specs.Text.{lines}
 use Rattle.text.specs.Answers.{written}
-use Rattle.text.specs.Session.{most, session}
-use Rattle.text.specs.Agrees.{Agrees}
+use Rattle.text.specs.Session.{most, Run, begun}
+use Rattle.text.specs.Agrees.{registerAt, Agrees, AgreesThroughout}
 use Rattle.text.specs.Judge.{Gives}
 use Rattle.text.specs.Print.{Wrote, wrote-then, wrote-length, written-none}
 use Rattle.text.specs.declared.progress.Session.{Session}
@@ -38,7 +39,7 @@ verdictWords v = v .code ∷ v .bytes ∷ []
 -- a session was run, and the result's first words, w' for w, are its result
 pub record SessionDone (text s s' o o' w w' : List ℕ) : Type 0 where
   pub result : Session
-  pub agrees : Agrees s' o o' result (session indices (most (capacity s)) (length o) text)
+  pub agrees : AgreesThroughout (most (capacity s)) (lines text) begun s' o o' result
   pub words : w' ≡ written w 0 (sessionWords result)
 
 pub record VerdictDone (text s o o' w w' : List ℕ) : Type 0 where
@@ -61,6 +62,12 @@ pub record SessionTold (text s s' c c' o o' w w' : List ℕ) (told : Bool) : Typ
 pub record VerdictTold (text s s' c c' o o' w w' : List ℕ) (told : Bool) : Type 0 where
   pub short : length w < 2 → (told ≡ false) × Untouched s s' c c' o o' w w'
   pub done : 2 ≤ length w → (told ≡ true) × VerdictDone text s o o' w w'
+
+-- the words of an empty register are 0
+pub empty-words : {s o o' : List ℕ} {r : Session} {t : Run indices} → Agrees s o o' r t → (i : ℕ) → i < 16 → occupied (registerAt r i) ≡ false
+    → registerWords (registerAt r i) ≡ 0 ∷ 0 ∷ 0 ∷ []
+unfolding registerWords
+empty-words a i l q = ap registerWords (a .empty i l q)
 
 -- the laws that the code's proofs use
 
@@ -108,7 +115,7 @@ registering-end {i = i} p h =
 pub session-short : {text s c o w : List ℕ} → length w < 52 → SessionTold text s s c c o o w w false
 session-short h = record { short = λ _. (refl, record { store = refl; cache = refl; output = refl; result = refl }); done = λ l. absurd (omega arith) }
 
-pub session-told : {text s s' c c' o o' w w' : List ℕ} {r : Session} → 52 ≤ length w → Agrees s' o o' r (session indices (most (capacity s)) (length o) text)
+pub session-told : {text s s' c c' o o' w w' : List ℕ} {r : Session} → 52 ≤ length w → AgreesThroughout (most (capacity s)) (lines text) begun s' o o' r
     → w' ≡ written w 0 (sessionWords r) → SessionTold text s s' c c' o o' w w' true
 session-told {r = r} h a q = record { short = λ l. absurd (omega arith); done = λ _. (refl, record { result = r; agrees = a; words = q }) }
 

@@ -27,6 +27,7 @@ pub mod Check
 pub mod Lists
 pub mod RulingLaws
 -- laws of the tally, of a verdict's session and of what it means
+pub mod SessionLaws
 pub mod TallyLaws
 pub mod VerdictRunLaws
 pub mod GateShape

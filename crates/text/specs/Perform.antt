@@ -19,6 +19,7 @@ use Rattle.diagram.specs.declared.registers.Register.{Register}
 use Rattle.diagram.specs.declared.registers.Registers.{Registers}
 use Rattle.diagram.specs.declared.registers.Held.{Held}
 use Rattle.diagram.specs.declared.registers.Held.the-variants as held
+use Rattle.text.specs.Answers.{isNo}
 use Rattle.text.specs.Session.{Capacity, most, Tally}
 use Rattle.text.specs.Gates.{Placed}
 use Rattle.text.specs.GateShape.{gate-rising}
@@ -35,14 +36,6 @@ use Rattle.text.specs.declared.perform.Run.{Run}
 use Rattle.text.specs.declared.ruling.Ruling.{Ruling}
 use Rattle.text.specs.declared.ruling.Ruling.the-variants.{No}
 use Rattle.text.specs.declared.verdict.Fault.the-variants.{Full}
-
-abbrev pub isNo : Answer → Bool
-isNo (answers.Ok n) = false
-isNo (answers.No r) = true
-isNo (answers.Value w) = false
-isNo answers.Same = false
-isNo (answers.Factor f) = false
-isNo answers.Differ = false
 
 -- the verdict that is come to from here: the calls before were refused at `line`, or others follow
 unfoldable pub after : Capacity → ℕ → List Numbered → List ℕ → Run → Ruling

@@ -1,6 +1,6 @@
 -- Each call answers as the tally's does: the operands, the step, and the refusals in order.
 use mathlib.Core.Path.{_≡_, refl, ap, sym, subst, _∙_}
-use mathlib.Core.Bool.{Bool, true, false, cond}
+use mathlib.Core.Bool.{Bool, true, false, cond, false≢true}
 use mathlib.Core.List.{List}
 use Prim.Native.Nat.{ℕ, _+_, _-_, _≤_, _<_}
 use native.Mathlib.Omega.{arith}
@@ -9,10 +9,11 @@ use Rattle.diagram.specs.Weights.{toWeight, Stands, stands-number}
 use Rattle.diagram.specs.Tensor.{Tensor, indices, bits, value, constant, depends}
 use Rattle.diagram.specs.Tally.{Step, return, sum, cont, low, build}
 use Rattle.diagram.specs.Gates.{gateTensor, unitTensor}
-use Rattle.diagram.specs.Node.{capacity, Alike}
+use Rattle.diagram.specs.Node.{capacity, Alike, alike-node}
+use Rattle.diagram.specs.Listed.{listed}
 use Rattle.diagram.specs.Depends.{Depended}
 use Rattle.diagram.specs.Compare.{compared, compared-says, Says, Compares}
-use Rattle.diagram.specs.Engine.{setOf, tensorOf, set-length, alike-set, alike-tensor, Does}
+use Rattle.diagram.specs.Engine.{setOf, tensorOf, set-length, alike-nodes, alike-set, alike-tensor, Does}
 use Rattle.diagram.specs.Registers.{emptyRegister, holds, holds-set, Reads, Registered}
 use Rattle.diagram.specs.Collecting.{Collected}
 use Rattle.diagram.specs.Standing.{Standing, holds-read, read-valid, standing-clear, standing-depended, standing-collected}
@@ -30,7 +31,8 @@ use Rattle.diagram.specs.declared.registers.Held.the-variants as held
 use Rattle.text.specs.Calls.{Ranged}
 use Rattle.text.specs.Answers.{Small}
 use Rattle.text.specs.Session.{most, Reply as TallyReply, count, refuse, accept, settle, holding, register, comparison, answer}
-use Rattle.text.specs.Engine.{tallyOf, Refuses, Settled, Settles, Responds, Observes, Replies, settled-put, settled-does}
+use Rattle.text.specs.Agrees.{Unchanged}
+use Rattle.text.specs.Engine.{tallyOf, Refuses, RefusedUnchanged, Settled, Settles, Responds, Observes, Replies, nodes-unchanged, settled-put, settled-does}
 use Rattle.text.specs.declared.answer.Answer.{Answer}
 use Rattle.text.specs.declared.answer.Answer.the-variants.{Ok, Value, Same, Factor, Differ}
 use Rattle.text.specs.declared.call.Refusal.{Refusal}
@@ -76,6 +78,7 @@ module _ {c s : List ℕ} {e : Engine} {r : Reply} (p : Standing c s (e .state) 
     standing = rw (f .engine) p;
     small = rw (f .answer) tt;
     is = rw (f .answer, f .engine) q;
+    refused = λ no. rw (f .engine) record { nodes = refl; registers = refl };
   }
 
   pub refused-line : {x : Call} {why : Refusal} → x ≡ call.Refused why → Refuses e why r → Responds c s s e x r
@@ -129,7 +132,7 @@ module _ {e : Engine} {r : Reply} {a : ℕ} {h : Held} (g : Reads (e .registers 
 module _ {c' s s' : List ℕ} {e : Engine} {d : ℕ} {r : Reply} where
   settled-as : {f : Step indices} {x : Call} → answer (most (capacity s)) x (tallyOf s e) ≡ settle (most (capacity s)) d (f (setOf s (e .state))) (tallyOf s e)
       → Settled c' s s' e d f r → Responds c' s s' e x r
-  settled-as q h = record { standing = h .standing; small = h .small; is = q ∙ h .is }
+  settled-as q h = record { standing = h .standing; small = h .small; is = q ∙ h .is; refused = h .refused }
 
   module _ {c : List ℕ} (p : Standing c s (e .state) (e .registers .all)) where
     pub responds-put : {w : ℕ} → w < 65537 → Settles c s c' s' e d (made.Edge (record { weight = w; node = 0 }) (e .state)) r
@@ -166,6 +169,9 @@ alike-tally e a = rw (alike-set (e .state) a)
 alike-capacity : {s s' : List ℕ} → Alike s s' → capacity s' ≡ capacity s
 alike-capacity a = rw (a .long)
 
+unchanged-alike : {s s₁ s' : List ℕ} {m m' : ℕ} {rs rs' : List Register} → Alike s s₁ → Unchanged s₁ s' m m' rs rs' → Unchanged s s' m m' rs rs'
+unchanged-alike {m = m} a u = record { nodes = u .nodes ∙ ap (λ f. listed f m) (alike-node a); registers = u .registers }
+
 -- The call answers as the tally's `low` does where register a holds the tensor of x: "7 (a depends on k-1)", then the step.
 pub record Lowers (c' s s' : List ℕ) (e : Engine) (d k : ℕ) (x : Edge) (r : Reply) : Type 0 where
   pub standing : Standing c' s' (r .engine .state) (r .engine .registers .all)
@@ -173,6 +179,7 @@ pub record Lowers (c' s s' : List ℕ) (e : Engine) (d k : ℕ) (x : Edge) (r : 
   pub is : cond (depends (k - 1) (tensorOf s (e .state) x)) (refuse Depends (tallyOf s e))
       (settle (most (capacity s)) d (low k (tensorOf s (e .state) x) (setOf s (e .state))) (tallyOf s e))
       ≡ (r .answer, tallyOf s' (r .engine))
+  pub refused : RefusedUnchanged s s' e r
 
 module _ {s s₁ : List ℕ} {e : Engine} {d k j : ℕ} {x : Edge} {b : Bool} {r : Reply} (w : Depended s s₁ (e .state) x j b) where
   pub refused-depends : {c : List ℕ} → Standing c s (e .state) (e .registers .all) → j ≡ k - 1 → b ≡ true → Refuses e Depends r → Lowers c s s₁ e d k x r
@@ -181,11 +188,17 @@ module _ {s s₁ : List ℕ} {e : Engine} {d k j : ℕ} {x : Edge} {b : Bool} {r
     standing = rw (f .engine) (standing-depended p w);
     small = rw (f .answer) tt;
     is = rw (← m, ← w .is, q, f .answer, f .engine, alike-tally e (w .alike));
+    refused = λ no. rw (f .engine) (nodes-unchanged (e .state) (e .state) (alike-nodes (e .state) (w .alike)) refl);
   }
 
   pub lowers : {c' s' : List ℕ} → j ≡ k - 1 → 1 ≤ k → b ≡ false → Settled c' s₁ s' e d (low (j + 1) (tensorOf s₁ (e .state) x)) r → Lowers c' s s' e d k x r
   unfolding tallyOf
-  lowers {c'} {s'} m n q f = record { standing = f .standing; small = f .small; is = lowered ∙ f .is }
+  lowers {c'} {s'} m n q f = record {
+    standing = f .standing;
+    small = f .small;
+    is = lowered ∙ f .is;
+    refused = λ no. unchanged-alike (w .alike) (f .refused no);
+  }
     where
       up : j + 1 ≡ k
       up = omega arith
@@ -198,7 +211,12 @@ module _ {s s₁ : List ℕ} {e : Engine} {d k j : ℕ} {x : Edge} {b : Bool} {r
 pub responds-low : {c' s s' : List ℕ} {e : Engine} {d a k : ℕ} {h : Held} {x : Edge} {r : Reply} → Reads (e .registers .all) a h → h ≡ held.Edge x
     → Lowers c' s s' e d k x r → Responds c' s s' e (call.Low d a k) r
 unfolding answer tallyOf
-responds-low {s = s} {e = e} i o w = record { standing = w .standing; small = w .small; is = operand s e i _ o ∙ w .is }
+responds-low {s = s} {e = e} i o w = record {
+  standing = w .standing;
+  small = w .small;
+  is = operand s e i _ o ∙ w .is;
+  refused = w .refused;
+}
 
 -- the others
 
@@ -226,6 +244,7 @@ module _ {e : Engine} {a : ℕ} {h : Held} {x : Edge} (i : Reads (e .registers .
         standing = standing-clear a p q;
         small = omega (arith, p .held .stored .numbered);
         is = operand s e i _ o ∙ rw (set-length s (e .state), q, holds-set (setOf s (e .state)) (e .registers .all) a emptyRegister);
+        refused = λ no. absurd (false≢true no);
       }
 
   pub responds-at : {s : List ℕ} {v w : ℕ} → Stands w (value (tensorOf s (e .state) x) v)
@@ -234,7 +253,12 @@ module _ {e : Engine} {a : ℕ} {h : Held} {x : Edge} (i : Reads (e .registers .
   responds-at {s} {v} {w} n = record { on = on }
     where
       on : (c : List ℕ) → Standing c s (e .state) (e .registers .all) → Responds c s s e (call.At a v) (record { answer = Value w; engine = e })
-      on c p = record { standing = p; small = omega (arith, n .small); is = operand s e i _ o ∙ ap (λ n. (Value n, tallyOf s e)) (sym (stands-number n)) }
+      on c p = record {
+        standing = p;
+        small = omega (arith, n .small);
+        is = operand s e i _ o ∙ ap (λ n. (Value n, tallyOf s e)) (sym (stands-number n));
+        refused = λ no. record { nodes = refl; registers = refl };
+      }
 
   pub responds-cmp : {b : ℕ} {g : Held} {y : Edge} {r : Comparison} {n : Answer} → a < 16 → b < 16 → Reads (e .registers .all) b g → g ≡ held.Edge y
       → Compares x y r → n ≡ comparison r → Replies e (call.Cmp a b) (record { answer = n; engine = e })
@@ -249,6 +273,7 @@ module _ {e : Engine} {a : ℕ} {h : Held} {x : Edge} (i : Reads (e .registers .
             standing = p;
             small = subst Small (sym m) (small-comparison _ _ r (subst (Says _ _) t (compared-says (tensorOf s (e .state) x) (tensorOf s (e .state) y))));
             is = operand s e i _ o ∙ operand s e j _ q ∙ ap (λ z. (z, tallyOf s e)) (ap comparison t ∙ sym m);
+            refused = λ no. record { nodes = refl; registers = refl };
           }
 
 pub responds-collect : {c' s s' : List ℕ} {e : Engine} {st : State} {rs : Registers} → Collected c' s s' (e .state) st (e .registers .all) (rs .all)
@@ -258,4 +283,5 @@ responds-collect {s' = s'} {st = st} w = record {
   standing = standing-collected w;
   small = omega (arith, w .held .stored .numbered);
   is = rw (w .same, ← w .set, set-length s' st);
+  refused = λ no. absurd (false≢true no);
 }

@@ -4,11 +4,12 @@ use mathlib.Core.Path.{_≡_, refl, sym, subst}
 use mathlib.Core.Bool.{Bool, true, false, cond, _||_, true≢false}
 use mathlib.Core.List.{List, [], _∷_}
 use mathlib.Core.Option.{Option, none, some}
-use Prim.Native.Nat.{ℕ, zero, suc, _-_, _≤_, _<_}
+use Prim.Native.Nat.{ℕ, zero, suc, _+_, _-_, _≤_, _<_}
 use native.Mathlib.Omega.{arith}
+use lib.Dec.{leb}
 use lib.ListN.{length, getD, set}
 use Rattle.diagram.specs.Weights.{toWeight}
-use Rattle.diagram.specs.Tensor.{Tensor, bits, same, constant, depends}
+use Rattle.diagram.specs.Tensor.{Tensor, indices, indices-24, bits, same, constant, depends}
 use Rattle.diagram.specs.TensorLaws.{same-eq, same-refl}
 use Rattle.diagram.specs.TestLaws.{or-right}
 use Rattle.diagram.specs.Tally.{Set, Step, member, sum, cont, low, build, keeps, collect, filled, return}
@@ -20,7 +21,10 @@ use Rattle.diagram.specs.CoverLaws.{covers-grown, covers-constant}
 use Rattle.diagram.specs.Collect.{collect-covers, collect-exactly}
 use Rattle.diagram.specs.Answered.{Answered, sum-answered, cont-answered, low-answered, build-answered}
 use Rattle.diagram.specs.Gates.{gateTensor, unitTensor}
-use Rattle.text.specs.Session.{Capacity, fits, Tally, Reply, start, answer, accept, refuse, settle, holding, register}
+use Rattle.text.specs.Text.{Bytes}
+use Rattle.text.specs.Calls.{Ranged, readLine}
+use Rattle.text.specs.Ranges.{line-ranged}
+use Rattle.text.specs.Session.{Capacity, fits, Tally, Reply, start, answer, accept, refuse, settle, holding, register, Run, begun, more, stopped, run}
 use Rattle.text.specs.declared.call.Refusal.the-variants.{Full, Depends}
 use Rattle.text.specs.declared.call.Call.{Call}
 use Rattle.text.specs.declared.call.Call.the-variants as call
@@ -143,3 +147,44 @@ module _ {d : ℕ} (c : Capacity) (t : Tally d) (k : Complete t) where
 pub start-complete : (d : ℕ) → Complete (start {d = d})
 unfolding start
 start-complete d = record { clean = clean-empty; covered = tt }
+
+-- At every point of every run: for all lines, and so for those answered so far.
+
+ranged-inside : (x : Call) → Ranged x → Inside 24 x
+ranged-inside (call.Put r w) h = tt
+ranged-inside (call.Gate r g) h = tt
+ranged-inside (call.Unit r n) h = tt
+ranged-inside (call.Add r a b) h = tt
+ranged-inside (call.Cont r a b m) h = tt
+ranged-inside (call.Low r a k) h = (h .1 .1 .0, omega (arith, h .1 .1 .1))
+ranged-inside (call.Drop a) h = tt
+ranged-inside call.Collect h = tt
+ranged-inside (call.At a v) h = tt
+ranged-inside (call.Cmp a b) h = tt
+ranged-inside (call.Refused r) h = tt
+
+module _ (c : Capacity) (room : ℕ) where
+  line-complete : (l : Bytes) (t : Tally indices) → Complete t → Complete (answer c (readLine l) t .1)
+  line-complete l t k = answer-complete c t k (readLine l) (rw indices-24 (ranged-inside (readLine l) (line-ranged l)))
+
+  lines-complete : (ls : List Bytes) (r : Run indices) → Complete (r .tally) → Complete (run c room ls r .tally)
+  unfolding run more stopped
+  lines-complete [] r k = k
+  lines-complete (l ∷ ls) r k =
+      go (leb (length (r .output) + 16) room) (lines-complete ls (more r (answer c (readLine l) (r .tally))) (line-complete l (r .tally) k))
+    where
+      go : (b : Bool) → Complete (run c room ls (more r (answer c (readLine l) (r .tally))) .tally)
+          → Complete (cond b (run c room ls (more r (answer c (readLine l) (r .tally)))) (stopped r) .tally)
+      go true h = h
+      go false h = k
+
+  -- its set is normal, no tensor stands in it twice, and it has what its registers need
+  pub run-complete : (ls : List Bytes) → Complete (run {d = indices} c room ls begun .tally)
+  unfolding begun
+  run-complete ls = lines-complete ls begun (start-complete indices)
+
+  -- so a `collect` at any point of a run keeps exactly what document 01 says
+  pub run-collects : (ls : List Bytes) (x : Tensor indices)
+      → member x (collect (filled (run c room ls begun .tally .registers)) (run c room ls begun .tally .nodes))
+      ≡ member x (keeps indices (filled (run c room ls begun .tally .registers)))
+  run-collects ls = collect-keeps-all c (run c room ls begun .tally) (run-complete ls)

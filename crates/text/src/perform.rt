@@ -16,7 +16,8 @@ ghost use Rattle.diagram.specs.Standing.{Standing};
 ghost use Rattle.text.specs.Gates.{Placed};
 ghost use Rattle.text.specs.Calls.{Ranged};
 ghost use Rattle.text.specs.VerdictRun.{gateCalls};
-ghost use Rattle.text.specs.Perform.{isNo, Extends, Tidied, Finishes};
+ghost use Rattle.text.specs.Answers.{isNo};
+ghost use Rattle.text.specs.Perform.{Extends, Tidied, Finishes};
 
 // Whether a call was refused, and what the calls before it leave.
 pub struct Run {

@@ -1,10 +1,10 @@
 use borrow.Author.Needs.{needs}
-use Rattle.text.specs.AgreesLaws.{printed-within}
+use Rattle.text.specs.AgreesLaws.{session-within}
 use Rattle.script.proofs.run.show.Statement.{statement}
 use Rattle.script.proofs.run.show.Tie as tie
 
 part-word-end : tie.Need-part-word-end
-part-word-end c = search (needs, printed-within)
+part-word-end c = search (needs, session-within)
 
 pub show-spec : {M : Type 1} → statement M
 show-spec =
