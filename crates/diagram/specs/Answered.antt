@@ -1,17 +1,16 @@
 -- What every step of the tally does to its set, in one record.
-use Prim.Native.Nat.{ℕ, suc, _-_, _≤_, _<_}
+use Prim.Native.Nat.{ℕ, _-_, _≤_, _<_}
 use Rattle.diagram.specs.Tensor.{Tensor, Bits}
-use Rattle.diagram.specs.TopLaws.{From}
 use Rattle.diagram.specs.FreeLaws.{Free}
-use Rattle.diagram.specs.Tally.{Set, Step, join, sum, cont, low, build}
+use Rattle.diagram.specs.Tally.{Set, Step, sum, cont, low, build}
 use Rattle.diagram.specs.Sets.{Grown}
-use Rattle.diagram.specs.StepLaws.{Writes, writes-grows, writes-join}
+use Rattle.diagram.specs.StepLaws.{Writes, writes-grows}
 use Rattle.diagram.specs.SumLaws.{sum-writes}
 use Rattle.diagram.specs.ContLaws.{cont-writes}
 use Rattle.diagram.specs.LowLaws.{low-writes, build-writes}
 use Rattle.diagram.specs.Reach.{Covers}
 use Rattle.diagram.specs.Clean.{Clean, clean-step}
-use Rattle.diagram.specs.CoverLaws.{Covered, join-covers, sum-covers, cont-covers, low-covers, build-covers}
+use Rattle.diagram.specs.CoverLaws.{Covered, sum-covers, cont-covers, low-covers, build-covers}
 
 pub record Answered {d : ℕ} (s : Set d) (r : Tensor d × Set d) : Type 0 where
   -- the tensors of before stay, in their order, and others follow
@@ -25,9 +24,6 @@ answered : {d : ℕ} {T : Tensor d} {f : Step d} (s : Set d) → Writes T f → 
 answered s w c = record { grown = writes-grows w s; clean = clean-step s w; covered = c }
 
 module _ {d : ℕ} (s : Set d) where
-  pub join-answered : (k : ℕ) (L H : Tensor d) → k < d → From (suc k) L → From (suc k) H → Covers s L → Covers s H → Answered s (join k L H s)
-  join-answered k L H p f g cl ch = answered s (writes-join k L H p f g) (join-covers k L H s p f g cl ch)
-
   pub sum-answered : (A B : Tensor d) → Covers s A → Covers s B → Answered s (sum A B s)
   sum-answered A B ca cb = answered s (sum-writes A B) (sum-covers A B s ca cb)
 

@@ -174,7 +174,7 @@ module _ {d : ℕ} where
   unfolding collect
   collect-member filled s x = within-member (keeps d filled) s x
 
-  -- what stays keeps its order
+  -- "a collection closes the gaps and preserves order"
   pub collect-sublist : (filled : List (Tensor d)) (s : Set d) → Sublistᴰ (collect filled s) s
   unfolding collect
   collect-sublist filled s = within-sublist (keeps d filled) s

@@ -3,20 +3,19 @@ use mathlib.Core.Path.{_≡_, refl, ap, ap₂, sym, _∙_}
 use mathlib.Core.Bool.{Bool, true, false, cond, _||_, false≢true}
 use mathlib.Core.List.{[], _∷_, _++_}
 use mathlib.Core.Option.{Option, none, some}
-use Prim.Native.Nat.{ℕ, zero, suc, _-_, _/_, _^_, _<_, _≤_, zero-le, suc-le-suc}
+use Prim.Native.Nat.{ℕ, zero, suc, _-_, _<_, _≤_, zero-le, suc-le-suc}
 use native.Mathlib.Omega.{arith}
 use lib.ListN.{length}
 use Rattle.field.specs.Weight.{0W}
-use Rattle.diagram.specs.Tensor.{Tensor, Bits, bits, tail, same, constant, isZero, scale, plus, times, top, top2, fix, joined, normal, multiple}
+use Rattle.diagram.specs.Tensor.{Tensor, Bits, tail, same, constant, isZero, scale, plus, times, top, top2, fix, joined, normal, multiple}
 use Rattle.diagram.specs.Tensor.{set, without}
 use Rattle.diagram.specs.Tensor.{members, power2}
-use Rattle.diagram.specs.TensorLaws.{power-suc, same-refl, same-eq}
+use Rattle.diagram.specs.TensorLaws.{same-refl, same-eq}
 use Rattle.diagram.specs.TestLaws.{test-ext, or-right}
 use Rattle.diagram.specs.TopLaws.{lowest, top-inside, induction, induction2}
 use Rattle.diagram.specs.Tally.{Set, Step, Binary, Unary, return, _>>=_, member, put, joinCases, join, both, sumCases, sumBody, sum, contCases}
 use Rattle.diagram.specs.Tally.{contBody, cont, halves, lowAt, lowCases, lowBody, low, buildCases, buildBody, build, keeps, within, collect}
 use Rattle.diagram.specs.BitsLaws.{members-none}
-use Rattle.diagram.specs.Tabulate.{bits-none}
 use Rattle.diagram.specs.SumLaws.{sum-step}
 use Rattle.diagram.specs.ContLaws.{cont-step}
 use Rattle.diagram.specs.LowLaws.{low-step, build-step}
@@ -105,12 +104,6 @@ module _ (m : ℕ) where
 
 abbrev pub Below : ℕ → Bits → Type 0
 Below d S = (j : ℕ) → d ≤ j → S j ≡ false
-
-pub bits-below : (d m : ℕ) → m < 2 ^ d → Below d (bits m)
-unfolding bits
-bits-below zero m p j q = let z : m ≡ 0 = omega arith in rw z (bits-none j)
-bits-below (suc d) m p zero q = absurd (omega arith)
-bits-below (suc d) m p (suc j) q = bits-below d (m / 2) (omega (arith, power-suc d)) j (omega arith)
 
 set-below : (k d : ℕ) (S : Bits) → Below d S → Below d (set k false S)
 unfolding set

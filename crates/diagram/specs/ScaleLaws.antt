@@ -1,16 +1,15 @@
 -- Laws that need inverses: scaling by a nonzero weight, the normal multiple, uniqueness.
 use mathlib.Core.Path.{_≡_, refl, ap, ap₂, sym, _∙_}
-use mathlib.Core.Bool.{Bool, true, false, cond, _&&_, true≢false}
+use mathlib.Core.Bool.{Bool, true, false, cond, _&&_}
 use mathlib.Core.Option.{some}
 use Prim.Native.Nat.{ℕ, suc, _<_}
-use Rattle.field.specs.Weight.{Weight, 0W, 1W, timesW, sameW, inverseW, Nonzero}
-use Rattle.field.specs.Ring.{sameW-eq, not-zero, timesW-comm, timesW-one, timesW-zero}
-use Rattle.field.specs.Inverse.{inverse, times-cancel, times-nonzero, inverse-nonzero, inverse-one, inverse-times}
+use Rattle.field.specs.Weight.{Weight, 0W, 1W, timesW, inverseW, Nonzero}
+use Rattle.field.specs.Ring.{timesW-comm, timesW-one}
+use Rattle.field.specs.Inverse.{inverse, times-nonzero, inverse-nonzero, inverse-one, inverse-times}
 pub use Rattle.diagram.specs.TestLaws.{cases, no-some}
 use Rattle.diagram.specs.TestLaws.{cond-ap, test-ext}
 use Rattle.diagram.specs.Tensor.{Tensor, weight, split, Normal, same, constant, isZero, scale, first, top, top2, lower, joined, normal, multiple}
 use Rattle.diagram.specs.TensorLaws.{same-eq, eq-same, scale-scale, scale-one, scale-zero, isZero-eq, isZero-constant}
-use Rattle.diagram.specs.TensorLaws.{zero-scale, first-constant}
 use Rattle.diagram.specs.TopLaws.{From, top-constant, top-joined}
 
 pub top-nonzero : {d : ℕ} (k : ℕ) (T : Tensor d) → top T ≡ some k → isZero T ≡ false
@@ -99,30 +98,6 @@ multiple-eq A B n m e = (
   times-nonzero (first-nonzero B m) (inverse-nonzero (first-nonzero A n)),
   sym (scale-normal B m) ∙ ap (scale (first B)) (sym (same-eq (normal A) (normal B) e)) ∙ scale-scale (first B) (inverseW (first A)) A,
 )
-
--- of tensors that are not zero: `multiple` says that one is a multiple of the other
-pub multiple-of : {d : ℕ} (c : Weight) (A B : Tensor d) → isZero A ≡ false → A ≡ scale c B → multiple A B ≡ true
-unfolding multiple
-multiple-of {d} c A B n e = eq-same (rw e (normal-scale c B (not-zero c zero)))
-  where
-    zero : c ≡ 0W → ⊥
-    zero z = true≢false (sym (rw (e, z, zero-scale B) (isZero-constant d)) ∙ n)
-
--- the factor of `cmp`: a is f times b, for one f
-pub multiple-factor : {d : ℕ} (A B : Tensor d) → isZero A ≡ false → isZero B ≡ false → multiple A B ≡ true
-    → A ≡ scale (timesW (first A) (inverseW (first B))) B
-unfolding multiple normal
-multiple-factor A B n m e =
-    sym (scale-normal A n) ∙ ap (scale (first A)) (same-eq (normal A) (normal B) e) ∙ scale-scale (first A) (inverseW (first B)) B
-
-pub factor-unique : {d : ℕ} (a b : Weight) (T : Tensor d) → isZero T ≡ false → scale a T ≡ scale b T → a ≡ b
-factor-unique {d} a b T n e =
-    times-cancel (first-nonzero T n) (timesW-comm (first T) a ∙ sym (any a) ∙ ap first e ∙ any b ∙ timesW-comm b (first T))
-  where
-    any : (c : Weight) → first (scale c T) ≡ timesW c (first T)
-    any c = cases (sameW c 0W)
-        (λ z. rw (sameW-eq c 0W z, zero-scale T, first-constant d 0W) (sym (timesW-zero (first T))))
-        (λ z. first-scale c T (record { is = z }))
 
 pub normal-normal : {d : ℕ} (k : ℕ) (T : Tensor d) → top T ≡ some k → Normal (normal T)
 unfolding normal

@@ -90,10 +90,6 @@ pub present-grown : {d : ℕ} (xs : Set d) {s t : Set d} → Grown s t → Prese
 present-grown [] g p = tt
 present-grown (x ∷ xs) g p = (member-grown x g (p .0), present-grown xs g (p .1))
 
-pub present-append : {d : ℕ} (xs ys s : Set d) → Present xs s → Present ys s → Present (xs ++ ys) s
-present-append [] ys s p q = q
-present-append (x ∷ xs) ys s p q = (p .0, present-append xs ys s (p .1) q)
-
 -- putting in what is present changes nothing, and only that
 pub putAll-present : {d : ℕ} (xs s : Set d) → Present xs s → putAll xs s ≡ s
 unfolding putAll

@@ -5,9 +5,9 @@ use mathlib.Core.Bool.{Bool, true, false}
 use Prim.Native.Nat.{ℕ, _-_, _^_, _≤_, _<_}
 use native.Mathlib.Omega.{arith}
 use Rattle.field.specs.Weight.{Weight, plusW, timesW}
-use Rattle.diagram.specs.Tensor.{Tensor, pick, Bits, bits, at, value, same, constant, fix, joined, plus, times, scale, set}
-use Rattle.diagram.specs.TensorLaws.{same-eq, eq-same, eq-value, at-scale, at-constant, at-joined, fix-fix, fix-again, fix-joined-other}
-use Rattle.diagram.specs.RingLaws.{at-plus, at-times, fix-plus, fix-times}
+use Rattle.diagram.specs.Tensor.{Tensor, pick, Bits, bits, at, value, fix, joined, times, scale, set}
+use Rattle.diagram.specs.TensorLaws.{eq-value, at-scale, at-joined, fix-fix, fix-again, fix-joined-other}
+use Rattle.diagram.specs.RingLaws.{at-plus, at-times, fix-times}
 use Rattle.diagram.specs.FreeLaws.{Free}
 use Rattle.diagram.specs.Tally.{Set, join, sum, cont, low, build}
 use Rattle.diagram.specs.StepLaws.{join-meaning}
@@ -20,16 +20,9 @@ use Rattle.diagram.specs.LowLaws.{lowered, at-lowered, low-meaning, buil
 pub agree-exactly : {d : ℕ} (A B : Tensor d) → (A ≡ B) ↔ ((v : ℕ) → v < 2 ^ d → value A v ≡ value B v)
 agree-exactly A B = (λ e v p. ap (λ T. value T v) e, eq-value A B)
 
-pub same-exactly : {d : ℕ} (A B : Tensor d) → (same A B ≡ true) ↔ ((v : ℕ) → v < 2 ^ d → value A v ≡ value B v)
-same-exactly A B = (λ e v p. ap (λ T. value T v) (same-eq A B e), λ e. eq-same (eq-value A B e))
-
 pub scale-value : {d : ℕ} (c : Weight) (T : Tensor d) (v : ℕ) → value (scale c T) v ≡ timesW c (value T v)
 unfolding value
 scale-value c T v = at-scale c T (bits v)
-
-pub constant-value : (d : ℕ) (w : Weight) (v : ℕ) → value (constant d w) v ≡ w
-unfolding value
-constant-value d w v = at-constant d w (bits v)
 
 module _ {d : ℕ} (s : Set d) where
   -- "the tensor that is L at k=0 and H at k=1"
@@ -59,10 +52,6 @@ module _ {d : ℕ} (s : Set d) where
 -- which indices an answer does not depend on
 
 module _ {d : ℕ} (s : Set d) where
-  pub sum-free : (k : ℕ) (A B : Tensor d) → Free k A → Free k B → Free k (sum A B s .0)
-  sum-free k A B f g =
-      rw (sum-meaning A B s) (record { is = fix-plus k false A B ∙ ap₂ plus (f .is) (g .is) ∙ sym (fix-plus k true A B) })
-
   -- what is contracted over S does not depend on S
   pub cont-free : (k : ℕ) (A B : Tensor d) (S : Bits) → k < d → S k ≡ true → Free k (cont A B S s .0)
   cont-free k A B S p e =

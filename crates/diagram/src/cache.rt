@@ -126,7 +126,7 @@ pub(crate) fn remember(cache: &mut [u64], epoch: u64, key: Key, e: Edge)
 }
 
 // Forgets everything: no entry is of an epoch from 1 on.
-pub fn clear(cache: &mut [u64])
+pub(crate) fn clear(cache: &mut [u64])
     ensures { λ _. ⌜ Blank (now (cache .exit)) ⌝ }
 {
     let mut i = 0;
@@ -137,7 +137,7 @@ pub fn clear(cache: &mut [u64])
 }
 
 // An epoch that no entry is of. At the largest one everything is forgotten, so that an epoch never comes twice.
-pub fn step(cache: &mut [u64], epoch: u64) -> u64
+pub(crate) fn step(cache: &mut [u64], epoch: u64) -> u64
     requires { ⌜ Past (now cache) epoch ⌝ }
     ensures { λ r. ⌜ Stepped (now (cache .exit)) r ⌝ }
 {

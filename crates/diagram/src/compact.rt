@@ -6,7 +6,6 @@ use crate::node::Node;
 use crate::registers::Register;
 use crate::registers::Registers;
 ghost use mathlib.Core.Path.{_≡_};
-ghost use mathlib.Core.Bool.{true};
 ghost use mathlib.Core.Logic.{_≢_};
 ghost use Prim.Native.Nat.{_+_, _*_, _-_, _≤_, _<_};
 ghost use lib.ListN.{length};
@@ -65,7 +64,7 @@ fn step(s: &mut [u8], count: usize, m: usize, k: usize) -> usize
 }
 
 // Moves the marked nodes of 1 .. count down; the answer is how many they are.
-pub fn compact(s: &mut [u8], count: usize) -> usize
+pub(crate) fn compact(s: &mut [u8], count: usize) -> usize
     requires { ⌜ (16 * count ≤ length (now s)) × ((count < 65536) × Closed (λ n. field (now s) 5 (n - 1)) (nodeAt (now s)) count) ⌝ }
     ensures { λ r. ⌜ Compacted (now (s .entry)) (now (s .exit)) count r ⌝ }
 {
@@ -95,7 +94,7 @@ fn moved(s: &[u8], r: Register) -> Register
 }
 
 // The registers with their nodes' new numbers.
-pub fn renumber(s: &[u8], count: usize, registers: Registers) -> Registers
+pub(crate) fn renumber(s: &[u8], count: usize, registers: Registers) -> Registers
     requires { ⌜ (16 * count ≤ length (now s)) × Registered count (registers .all) ⌝ }
     ensures { λ r. ⌜ r .all ≡ renumberAll (forwarded (now (s .entry))) (registers .all) ⌝ }
 {

@@ -10,7 +10,7 @@ ghost use Rattle.diagram.specs.Edge.{Times, Added};
 ghost use Rattle.diagram.specs.Cofactor.{Cofactor, Fixable};
 
 // The index of the edge's node; 24 for a constant.
-pub fn top(store: &[u8], s: State, a: Edge) -> usize
+pub(crate) fn top(store: &[u8], s: State, a: Edge) -> usize
     requires { ⌜ Sound (now store) s × Valid (s .count) a ⌝ }
     ensures { λ r. ⌜ (r ≡ levelOf (now (store .entry)) s a) × (r ≤ 24) ⌝ }
 {
@@ -23,7 +23,7 @@ pub fn top(store: &[u8], s: State, a: Edge) -> usize
 }
 
 // w times e.
-pub fn times(w: u64, e: Edge) -> Edge
+pub(crate) fn times(w: u64, e: Edge) -> Edge
     requires { ⌜ (w < 65537) × (e .weight < 65537) ⌝ }
     ensures { λ r. ⌜ Times w e r ⌝ }
 {
@@ -34,7 +34,7 @@ pub fn times(w: u64, e: Edge) -> Edge
 }
 
 // a and b, which lead to one node, added.
-pub fn added(a: Edge, b: Edge) -> Edge
+pub(crate) fn added(a: Edge, b: Edge) -> Edge
     requires { ⌜ (a .weight < 65537) × (b .weight < 65537) ⌝ }
     ensures { λ r. ⌜ Added a b r ⌝ }
 {
@@ -49,7 +49,7 @@ pub fn added(a: Edge, b: Edge) -> Edge
 }
 
 // a with the index k fixed.
-pub fn cofactor(store: &[u8], s: State, a: Edge, k: usize, high: bool) -> Edge
+pub(crate) fn cofactor(store: &[u8], s: State, a: Edge, k: usize, high: bool) -> Edge
     requires { ⌜ Sound (now store) s × Fixable (now store) s a k ⌝ }
     ensures { λ r. ⌜ Cofactor (now (store .entry)) s a k high r ⌝ }
 {

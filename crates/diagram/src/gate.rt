@@ -19,7 +19,7 @@ pub enum Gate {
 }
 
 // A one-qubit gate: rows output (fresh), columns input (middle). Zeros for a gate on two qubits.
-pub fn matrix(g: Gate) -> [[u64; 2]; 2]
+pub(crate) fn matrix(g: Gate) -> [[u64; 2]; 2]
     ensures { λ r. ⌜ r ≡ numbers (matrixOf g) ⌝ }
 {
     match g {

@@ -4,7 +4,6 @@ use crate::node;
 use crate::registers::Register;
 use crate::registers::Registers;
 ghost use mathlib.Core.Path.{_≡_};
-ghost use mathlib.Core.Bool.{true};
 ghost use Prim.Native.Nat.{_*_, _≤_};
 ghost use lib.ListN.{length};
 ghost use Rattle.diagram.specs.Node.{Within, nodeAt};
@@ -14,7 +13,7 @@ ghost use Rattle.diagram.specs.Registers.{edgesOf, Registered};
 ghost use Rattle.diagram.specs.Roots.{Unmarked, Root, FromRoots, Reaches};
 
 // Marks node c; 0 is no node.
-pub fn mark(s: &mut [u8], c: usize)
+pub(crate) fn mark(s: &mut [u8], c: usize)
     requires { ⌜ 16 * c ≤ length (now s) ⌝ }
     ensures { λ _. ⌜ Marks (now (s .entry)) (now (s .exit)) c ⌝ }
 {
@@ -40,7 +39,7 @@ fn look(s: &mut [u8], count: usize, n: usize)
 }
 
 // Marks what the marked nodes of 1 .. count lead to.
-pub fn spread(s: &mut [u8], count: usize)
+fn spread(s: &mut [u8], count: usize)
     requires { ⌜ (16 * count ≤ length (now s)) × Down (nodeAt (now s)) count ⌝ }
     ensures { λ _. ⌜ Spread (now (s .entry)) (now (s .exit)) count ⌝ }
 {
@@ -88,7 +87,7 @@ fn roots(s: &mut [u8], count: usize, registers: Registers)
 }
 
 // Marks what the filled registers lead to, and nothing else.
-pub fn reach(s: &mut [u8], count: usize, registers: Registers)
+pub(crate) fn reach(s: &mut [u8], count: usize, registers: Registers)
     requires { ⌜ (16 * count ≤ length (now s)) × (Down (nodeAt (now s)) count × Registered count (registers .all)) ⌝ }
     ensures { λ _. ⌜ Reaches count (edgesOf (registers .all)) (now (s .entry)) (now (s .exit)) ⌝ }
 {

@@ -13,7 +13,7 @@ fn bit(k: usize) -> u64
 }
 
 // Is k a member of m?
-pub fn has(m: u64, k: usize) -> bool
+pub(crate) fn has(m: u64, k: usize) -> bool
     requires { ⌜ k < 64 ⌝ }
     ensures { λ r. ⌜ r ≡ bits m k ⌝ }
 {
@@ -21,7 +21,7 @@ pub fn has(m: u64, k: usize) -> bool
 }
 
 // m without k.
-pub fn without(m: u64, k: usize) -> u64
+pub(crate) fn without(m: u64, k: usize) -> u64
     requires { ⌜ k < 64 ⌝ }
     ensures { λ r. ⌜ Without m k r ⌝ }
 {
@@ -55,7 +55,7 @@ fn below(m: u64, k: usize) -> u64
 }
 
 // 2 to the count of members below k, of which there are mostly none.
-pub fn factor(m: u64, k: usize) -> u64
+pub(crate) fn factor(m: u64, k: usize) -> u64
     requires { ⌜ k < 64 ⌝ }
     ensures { λ r. ⌜ Stands r (power2 (members k (bits m))) ⌝ }
 {
@@ -67,7 +67,7 @@ pub fn factor(m: u64, k: usize) -> u64
 }
 
 // The members of m from k on.
-pub fn from(m: u64, k: usize) -> u64
+pub(crate) fn from(m: u64, k: usize) -> u64
     requires { ⌜ k < 64 ⌝ }
     ensures { λ r. ⌜ Rest m k r ⌝ }
 {

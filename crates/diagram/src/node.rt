@@ -41,7 +41,7 @@ pub(crate) fn same(x: Node, y: Node) -> bool
 }
 
 // The most nodes that the store holds.
-pub fn capacity(s: &[u8]) -> usize
+pub(crate) fn capacity(s: &[u8]) -> usize
     ensures { λ r. ⌜ r ≡ capacityOf (now (s .entry)) ⌝ }
 {
     let n = s.len() / 16;
@@ -49,7 +49,7 @@ pub fn capacity(s: &[u8]) -> usize
 }
 
 // Node n.
-pub fn read(s: &[u8], n: usize) -> Node
+pub(crate) fn read(s: &[u8], n: usize) -> Node
     requires { ⌜ Within (now s) n ⌝ }
     ensures { λ r. ⌜ (r ≡ nodeAt (now (s .entry)) n) × Narrow r ⌝ }
 {
@@ -73,7 +73,7 @@ pub fn read(s: &[u8], n: usize) -> Node
 }
 
 // Writes node n.
-pub fn write(s: &mut [u8], n: usize, x: Node)
+pub(crate) fn write(s: &mut [u8], n: usize, x: Node)
     requires { ⌜ Within (now s) n × Narrow x ⌝ }
     ensures { λ _. ⌜ now (s .exit) ≡ putNode (now (s .entry)) n x ⌝ }
 {

@@ -8,8 +8,8 @@ use native.Mathlib.Numerals.{add-one}
 use native.Mathlib.Omega.{arith}
 use lib.Dec.{eqb}
 use borrow.Author.Tests.{eqb-true, eqb-false}
-use Rattle.field.specs.Weight.{modulus, Weight, small-mod, toWeight, 0W, 1W, plusW, timesW, negateW, onesPower, inverseW}
-use Rattle.field.specs.Ring.{weight-mod, number-weight, weight-zero, weight-one, weight-plus, weight-times, plusW-zero, plusW-cancel, timesW-comm, timesW-assoc, timesW-one, timesW-zero, nonzero-weight}
+use Rattle.field.specs.Weight.{modulus, Weight, small-mod, toWeight, 0W, 1W, plusW, timesW, onesPower, inverseW}
+use Rattle.field.specs.Ring.{weight-mod, weight-zero, weight-one, weight-plus, weight-times, plusW-zero, plusW-cancel, timesW-comm, timesW-assoc, timesW-one, timesW-zero, nonzero-weight}
 use Rattle.field.specs.Prime.{prime}
 use Rattle.field.specs.Inverse.{whole, inverse, inverse-unique, inverse-one}
 
@@ -27,10 +27,6 @@ stands-sum a b r e = rw (weight-plus a b) (stands-mod (a + b) r e)
 
 pub stands-product : (a b r : ℕ) → r ≡ a * b % modulus → Stands r (timesW (toWeight a) (toWeight b))
 stands-product a b r e = rw (weight-times a b) (stands-mod (a * b) r e)
-
-pub stands-negative : (a r : ℕ) → a < modulus → r ≡ (modulus - a) % modulus → Stands r (negateW (toWeight a))
-unfolding negateW
-stands-negative a r p e = rw (number-weight a p) (stands-mod (modulus - a) r e)
 
 -- f' times the inverse of w' is f times the inverse of w, and w' is less than w
 pub record Descends (f w f' w' : ℕ) : Type 0 where

@@ -1,7 +1,7 @@
 // Arithmetic on weights: whole numbers modulo the prime 65537 (document 01, "The field").
 ghost use mathlib.Core.Path.{_≡_};
 ghost use Prim.Native.Nat.{_%_, _≤_, _<_};
-ghost use Rattle.field.specs.Weight.{modulus, toWeight, plusW, timesW, negateW, inverseW};
+ghost use Rattle.field.specs.Weight.{modulus, toWeight, plusW, timesW, inverseW};
 ghost use Rattle.field.specs.Code.{Stands, Descends};
 
 pub fn add(a: u64, b: u64) -> u64
@@ -31,13 +31,6 @@ pub fn mul(a: u64, b: u64) -> u64
     ensures { λ r. ⌜ Stands r (timesW (toWeight a) (toWeight b)) ⌝ }
 {
     reduce(a * b)
-}
-
-pub fn neg(a: u64) -> u64
-    requires { ⌜ a < modulus ⌝ }
-    ensures { λ r. ⌜ Stands r (negateW (toWeight a)) ⌝ }
-{
-    if a == 0 { 0 } else { 65537 - a }
 }
 
 // On the way to an inverse: what is looked for is `factor` times the inverse of `rest`.

@@ -11,7 +11,7 @@ use lib.Dec.{leb, ltb}
 use lib.ListN.{length, getD, set}
 use borrow.Author.Tests.{leb-true, ltb-true}
 use Rattle.diagram.specs.Weights.{Weight, toWeight}
-use Rattle.diagram.specs.Tensor.{Tensor, bits, same, constant, depends, fresh}
+use Rattle.diagram.specs.Tensor.{Tensor, bits, constant, depends, fresh}
 use Rattle.diagram.specs.Tally.{Step, sum, cont, low, build, collect, filled, return}
 use Rattle.diagram.specs.Gates.{gateTensor, unitTensor}
 use Rattle.diagram.specs.Grow.{deeper, grow, grow-constant, grow-depends, grow-value, gate-grow, unit-grow}
@@ -257,10 +257,6 @@ module _ {d : ℕ} (m : ℕ) where
 
   unfoldable pub growRun : Run d → Run (deeper d m)
   growRun r = record { code = r .code; answered = r .answered; output = r .output; tally = growTally (r .tally) }
-
-  grow-more : (r : Run d) (x : Reply d) → more (growRun r) (growReply x) ≡ growRun (more r x)
-  unfolding more growRun
-  grow-more r x = refl
 
   grow-stopped : (r : Run d) → stopped (growRun r) ≡ growRun (stopped r)
   unfolding stopped growRun

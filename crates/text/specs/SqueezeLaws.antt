@@ -1,9 +1,9 @@
--- A squeezed line is short and reads as the line does; squeezing one byte after the other.
+-- A squeezed line reads as the line does; squeezing one byte after the other.
 use mathlib.Core.Path.{_≡_, refl, ap, sym, _∙_}
 use mathlib.Core.Bool.{Bool, true, false, cond}
 use mathlib.Core.Logic.{_≢_}
 use mathlib.Core.List.{List, [], _∷_, _++_, append-nil, append-assoc}
-use Prim.Native.Nat.{ℕ, zero, suc, _+_, _*_, _-_, _≤_, _<_}
+use Prim.Native.Nat.{ℕ, zero, suc, _+_, _-_, _≤_, _<_}
 use native.Mathlib.Numerals.{add-one}
 use native.Mathlib.Omega.{arith}
 use native.Mathlib.Decide.{ℕ-discrete, decLt}
@@ -41,27 +41,6 @@ module _ (t w : ℕ) {x : ℕ} (s : Bytes) where
   from-full : x ≢ tab → 9 ≤ w → squeezedFrom t w (x ∷ s) ≡ squeezedFrom t w s
   unfolding squeezedFrom
   from-full e h = rw (ne-eqb x tab e, le-ltb w 9 h)
-
--- Its length.
-
-from-short : (s : Bytes) (t w : ℕ) → t ≤ 5 → w ≤ 9 → length (squeezedFrom t w s) + 10 * t + w ≤ 59
-unfolding squeezedFrom
-from-short [] t w p q = omega arith
-from-short (x ∷ s) t w p q =
-    elim (ℕ-discrete x tab) [
-      | yes e ↦ elim (decLt t 5) [
-        | yes h ↦ rw (from-tab t w s e h) (omega (arith, from-short s (suc t) 0 (omega arith) (omega arith)))
-        | no h ↦ rw (from-last t w s e (omega arith)) (omega (arith, from-short s t 9 p (omega arith)))
-      ]
-      | no e ↦ elim (decLt w 9) [
-        | yes h ↦ rw (from-byte t w s e h) (omega (arith, from-short s t (suc w) p (omega arith)))
-        | no h ↦ rw (from-full t w s e (omega arith)) (from-short s t w p q)
-      ]
-    ]
-
-pub squeezed-short : (s : Bytes) → length (squeezed s) ≤ 59
-unfolding squeezed
-squeezed-short s = omega (arith, from-short s 0 0 (omega arith) (omega arith))
 
 -- Its fields: the first six, each cut to 9 bytes.
 
@@ -253,9 +232,6 @@ unfolding readLine
 readLine-squeezed s = rw (squeezed-fields s) (call-cut (fields s))
 
 -- Squeezing.
-
-pub squeezing-reads : {seen line : Bytes} {s : Squeeze} → Squeezing seen line s → readLine (take (s .length) line) ≡ readLine seen
-squeezing-reads {seen} q = rw (q .kept) (readLine-squeezed seen)
 
 pub begun : Begun (record { length = 0; tabs = 0; width = 0 })
 unfolding squeezed squeezedFrom

@@ -2,8 +2,7 @@
 use mathlib.Core.Path.{_≡_, refl, ap, ap₂, sym, _∙_, fun-ext}
 use mathlib.Core.Bool.{Bool, true, false, cond, _&&_, _||_}
 use mathlib.Core.List.{List, []}
-use mathlib.Core.Option.{some}
-use Prim.Native.Nat.{ℕ, zero, suc, _+_, _-_, _^_, _≤_, _<_}
+use Prim.Native.Nat.{ℕ, zero, suc, _+_, _^_, _≤_, _<_}
 use native.Mathlib.Omega.{arith}
 use native.Mathlib.Decide.{ℕ-discrete}
 use native.Mathlib.Nat.{add-zero, add-suc}
@@ -14,7 +13,6 @@ use Rattle.diagram.specs.TensorLaws.{power-suc}
 use Rattle.diagram.specs.OverLaws.{settings}
 use Rattle.diagram.specs.Tabulate.{Sees, bits-none}
 use Rattle.diagram.specs.Gates.{equal}
-use Rattle.text.specs.VerdictRun.{qubits}
 use Rattle.text.specs.VerdictRunLaws.{bit-added, bit-other}
 use Rattle.text.specs.Product.{BasisState, Operator, on, others, identity, sumBelow, sumStates, product}
 

@@ -12,7 +12,7 @@ use Rattle.text.specs.Gates.{Placed}
 use Rattle.text.specs.Verdict.{RangedHeader, Reading, lists, fault, itemOf, headerOf, withFirst, withSecond, firstItem, firstList, secondItem, secondList, afterHeader, readLines, readText, PlacedItem}
 use Rattle.text.specs.VerdictLaws.{item-placed, header-read}
 use Rattle.text.specs.Session.{Capacity, comparison, answer, register, holding}
-use Rattle.text.specs.VerdictRun.{Outcome, refused, rulingOf, judged, verdictOf, verdict}
+use Rattle.text.specs.VerdictRun.{Outcome, rulingOf, judged, verdictOf, verdict}
 use Rattle.text.specs.GateShape.{gate-rising}
 use Rattle.text.specs.VerdictRunLaws.{AllFit, appliedAll, Limited, Runs, full, end, Both, session-runs}
 use Rattle.text.specs.declared.verdict.Item.{Item}
@@ -61,9 +61,8 @@ pub placed-fit : (n : ℕ) (gs : List Gate) → n ≤ 8 → AllPlaced n gs → A
 placed-fit n [] l p = tt
 placed-fit n (g ∷ gs) l p = (gate-rising 24 n g (omega arith) (p .0), placed-fit n gs l (p .1))
 
--- The two lists of a good text are on n qubits, 1 to 8, and every gate is on qubits below n.
+-- The two lists of a good text are on n qubits, at most 8, and every gate is on qubits below n.
 pub record GoodLists (n : ℕ) (gs hs : List Gate) : Type 0 where
-  pub some-qubits : 1 ≤ n
   pub most-qubits : n ≤ 8
   pub first : AllPlaced n gs
   pub second : AllPlaced n hs
@@ -77,7 +76,7 @@ good-lists text {n} {gs} {hs} e = by-lines (lines text) e
         let same : m ≡ n = sym (h .0) ∙ cc in
         let firsts : gs' ≡ gs = cc in
         let seconds : hs' ≡ hs = cc in
-        record { some-qubits = omega arith; most-qubits = omega arith; first = rw (same, firsts) at (h .1); second = rw (same, seconds) at (h .2) }
+        record { most-qubits = omega arith; first = rw (same, firsts) at (h .1); second = rw (same, seconds) at (h .2) }
     by-reading m (fault f line) l h q = absurd (let z : _≡_ {A = ℕ} 0 1 = cc in omega arith)
 
     by-header : (h : Header) → RangedHeader h → (ls : List Bytes) → afterHeader h ls ≡ lists n gs hs → GoodLists n gs hs

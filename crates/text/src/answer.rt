@@ -57,7 +57,7 @@ fn put(out: &mut [u8], at: usize, answer: Answer) -> usize
 }
 
 // Writes an answer at a place, and answers the place after it.
-pub fn write(out: &mut [u8], at: usize, answer: Answer) -> usize
+pub(crate) fn write(out: &mut [u8], at: usize, answer: Answer) -> usize
     requires { ⌜ (at + 16 ≤ length (now out)) × Small answer ⌝ }
     ensures { λ r. ⌜ Printed (now (out .entry)) at answer (now (out .exit)) r ⌝ }
 {

@@ -41,7 +41,7 @@ fn with(args: Args, n: Number) -> Args
 }
 
 // The numbers, of at most `most` digits, in the fields after the one that ends at e.
-pub fn after(line: &[u8], e: usize, most: usize) -> Args
+pub(crate) fn after(line: &[u8], e: usize, most: usize) -> Args
     requires { ⌜ (e ≤ length (now line)) × (most ≤ 8) ⌝ }
     ensures { λ r. ⌜ r ≡ numbers most Args.None (rest (now (line .entry)) e) ⌝ }
 {

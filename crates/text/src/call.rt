@@ -32,7 +32,7 @@ pub enum Call {
 }
 
 // The call, if x is between least and most.
-pub fn bounded(x: usize, least: usize, most: usize, call: Call) -> Call
+pub(crate) fn bounded(x: usize, least: usize, most: usize, call: Call) -> Call
     ensures { λ r. ⌜ r ≡ within x least most call ⌝ }
 {
     if x < least {
@@ -45,7 +45,7 @@ pub fn bounded(x: usize, least: usize, most: usize, call: Call) -> Call
 }
 
 // The call, if there is a register d.
-pub fn registered(d: usize, call: Call) -> Call
+pub(crate) fn registered(d: usize, call: Call) -> Call
     ensures { λ r. ⌜ r ≡ register d call ⌝ }
 {
     if 15 < d {

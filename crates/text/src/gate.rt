@@ -60,7 +60,7 @@ fn make(d: Number, name: &[u8], qubits: Args) -> Call
 }
 
 // The gate call whose word ends at e.
-pub fn read(line: &[u8], e: usize) -> Call
+pub(crate) fn read(line: &[u8], e: usize) -> Call
     requires { ⌜ e ≤ length (now line) ⌝ }
     ensures { λ r. ⌜ r ≡ gateFields (rest (now (line .entry)) e) ⌝ }
 {

@@ -21,7 +21,7 @@ fn choose(s: &[u8], name: &[u8], yes: Gate, no: Named) -> Named
 }
 
 // The gate of this name on one qubit. It is looked for from the last to the first.
-pub fn one_qubit(s: &[u8], q: usize) -> Named
+pub(crate) fn one_qubit(s: &[u8], q: usize) -> Named
     ensures { λ r. ⌜ r ≡ oneQubit (now (s .entry)) q ⌝ }
 {
     let g = Named::Unknown;
@@ -37,7 +37,7 @@ pub fn one_qubit(s: &[u8], q: usize) -> Named
 }
 
 // The gate of this name on two qubits.
-pub fn two_qubits(s: &[u8], p: usize, q: usize) -> Named
+pub(crate) fn two_qubits(s: &[u8], p: usize, q: usize) -> Named
     ensures { λ r. ⌜ r ≡ twoQubits (now (s .entry)) p q ⌝ }
 {
     let g = Named::Unknown;

@@ -14,7 +14,7 @@ fn digit(d: usize) -> u8
 }
 
 // Puts s at a place, and answers the place after it.
-pub fn bytes(out: &mut [u8], at: usize, s: &[u8]) -> usize
+pub(crate) fn bytes(out: &mut [u8], at: usize, s: &[u8]) -> usize
     requires { ⌜ at + length (now s) ≤ length (now out) ⌝ }
     ensures { λ r. ⌜ Wrote (now (out .entry)) at (now (s .entry)) (now (out .exit)) r ⌝ }
 {
@@ -41,7 +41,7 @@ pub fn number(out: &mut [u8], at: usize, n: usize) -> usize
 }
 
 // Puts a word and a number at a place, and answers the place after them.
-pub fn labelled(out: &mut [u8], at: usize, word: &[u8], n: usize) -> usize
+pub(crate) fn labelled(out: &mut [u8], at: usize, word: &[u8], n: usize) -> usize
     requires { ⌜ at + length (now word) + length (decimal n) ≤ length (now out) ⌝ }
     ensures { λ r. ⌜ Wrote (now (out .entry)) at (now (word .entry) ++ decimal n) (now (out .exit)) r ⌝ }
 {

@@ -46,7 +46,7 @@ fn refuse(out: &mut [u8], fault: Fault, line: usize) -> usize
 }
 
 // Writes a verdict's answer at the start of the output, and answers how many bytes it has.
-pub fn write(out: &mut [u8], ruling: Ruling) -> usize
+pub(crate) fn write(out: &mut [u8], ruling: Ruling) -> usize
     requires { ⌜ (32 ≤ length (now out)) × SmallRuling ruling ⌝ }
     ensures { λ r. ⌜ Ruled (now (out .entry)) ruling (now (out .exit)) r ⌝ }
 {

@@ -20,7 +20,7 @@ pub fn end(s: &[u8], a: usize, b: u8) -> usize
     i
 }
 
-pub fn same(s: &[u8], t: &[u8]) -> bool
+pub(crate) fn same(s: &[u8], t: &[u8]) -> bool
     ensures { λ r. ⌜ r ≡ sameBytes (now (s .entry)) (now (t .entry)) ⌝ }
 {
     let n = s.len();

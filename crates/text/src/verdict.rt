@@ -85,7 +85,7 @@ fn gate_line(n: usize, name: &[u8], qubits: Args) -> Item
 }
 
 // A line after the first.
-pub fn read(n: usize, line: &[u8]) -> Item
+fn read(n: usize, line: &[u8]) -> Item
     ensures { λ r. ⌜ ItemRead n (now (line .entry)) r ⌝ }
 {
     if split::same(line, b"=") {
@@ -125,7 +125,7 @@ fn header_number(args: Args) -> Header
 }
 
 // The first line.
-pub fn read_header(line: &[u8]) -> Header
+fn read_header(line: &[u8]) -> Header
     ensures { λ r. ⌜ HeaderRead (now (line .entry)) r ⌝ }
 {
     let a = 0;

@@ -26,7 +26,7 @@ fn choose(s: &[u8], word: &[u8], yes: Word, no: Word) -> Word
 }
 
 // The word that s is. It is looked for from the last to the first.
-pub fn read(s: &[u8]) -> Word
+pub(crate) fn read(s: &[u8]) -> Word
     ensures { λ r. ⌜ r ≡ wordOf (now (s .entry)) ⌝ }
 {
     let w = Word::Unknown;
