@@ -1,11 +1,18 @@
 -- What the tally's set always is: only normal tensors, none twice, and so none a multiple of another.
-use mathlib.Core.Path.{_≡_, refl}
+use mathlib.Core.Path.{_≡_, refl, ap, sym, _∙_}
 use mathlib.Core.Bool.{Bool, true, false, cond, _||_, true≢false}
 use mathlib.Core.List.{[], _∷_}
-use Prim.Native.Nat.{ℕ}
-use Rattle.diagram.specs.Tensor.{Tensor, same}
+use Prim.Native.Nat.{ℕ, zero, suc, _<_}
+use native.Mathlib.Nat.{not-suc-le-zero, le-of-suc-le-suc}
+use lib.ListN.{length, getD}
+use Rattle.field.specs.Weight.{Weight, 0W, 1W}
+use Rattle.field.specs.Ring.{not-zero, one-nonzero, nonzero-not}
+use Rattle.diagram.specs.Tensor.{Tensor, Normal, same, scale, first}
+use Rattle.diagram.specs.TensorLaws.{same-refl, scale-one, zero-scale, first-constant}
+use Rattle.diagram.specs.ScaleLaws.{unique-tensor}
 use Rattle.diagram.specs.Tally.{Set, Step, member, within, collect, keeps}
 use Rattle.diagram.specs.Sets.{Distinct, AllNormal}
+use Rattle.diagram.specs.TestLaws.{or-right}
 use Rattle.diagram.specs.StepLaws.{Writes, writes-distinct, writes-normal}
 
 pub record Clean {d : ℕ} (s : Set d) : Type 0 where
@@ -55,3 +62,45 @@ pub clean-collect : {d : ℕ} (filled s : Set d) → Clean s → Clean (collect 
 unfolding collect
 clean-collect {d} filled s c =
     record { distinct = distinct-within (keeps d filled) s (c .distinct); normal = normal-within (keeps d filled) s (c .normal) }
+
+-- no tensor of the set is a multiple of another
+
+member-at : {d : ℕ} (s : Set d) (i : ℕ) (z : Tensor d) → i < length s → member (getD s i z) s ≡ true
+unfolding member
+member-at [] i z p = absurd (not-suc-le-zero p)
+member-at (x ∷ s) zero z p = rw (same-refl x)
+member-at (x ∷ s) (suc i) z p = or-right (same (getD s i z) x) _ (member-at s i z (le-of-suc-le-suc p))
+
+distinct-at : {d : ℕ} (s : Set d) (i j : ℕ) (z : Tensor d) → Distinct s → i < length s → j < length s → getD s i z ≡ getD s j z → i ≡ j
+distinct-at [] i j z p a b e = absurd (not-suc-le-zero a)
+distinct-at (x ∷ s) zero zero z p a b e = refl
+distinct-at (x ∷ s) zero (suc j) z p a b e =
+    absurd (true≢false (sym (rw e (member-at s j z (le-of-suc-le-suc b))) ∙ p .0))
+distinct-at (x ∷ s) (suc i) zero z p a b e =
+    absurd (true≢false (sym (rw (← e) (member-at s i z (le-of-suc-le-suc a))) ∙ p .0))
+distinct-at (x ∷ s) (suc i) (suc j) z p a b e = ap suc (distinct-at s i j z (p .1) (le-of-suc-le-suc a) (le-of-suc-le-suc b) e)
+
+normal-at : {d : ℕ} (s : Set d) (i : ℕ) (z : Tensor d) → AllNormal s → i < length s → Normal (getD s i z)
+normal-at [] i z p a = absurd (not-suc-le-zero a)
+normal-at (x ∷ s) zero z p a = p .0
+normal-at (x ∷ s) (suc i) z p a = normal-at s i z (p .1) (le-of-suc-le-suc a)
+
+pub clean-apart : {d : ℕ} (s : Set d) → Clean s → (i j : ℕ) (z : Tensor d) (c : Weight) → i < length s → j < length s
+    → getD s i z ≡ scale c (getD s j z) → i ≡ j
+clean-apart {d} s k i j z c a b e =
+    distinct-at s i j z (k .distinct) a b (unique-tensor 1W c x y one-nonzero (not-zero c zero) (nx .one) (ny .one) (scale-one x ∙ e))
+  where
+    x : Tensor d
+    x = getD s i z
+
+    y : Tensor d
+    y = getD s j z
+
+    nx : Normal x
+    nx = normal-at s i z (k .normal) a
+
+    ny : Normal y
+    ny = normal-at s j z (k .normal) b
+
+    zero : c ≡ 0W → ⊥
+    zero q = nonzero-not one-nonzero (sym (nx .one) ∙ ap first (e ∙ ap (λ w. scale w y) q ∙ zero-scale y) ∙ first-constant d 0W)

@@ -1,15 +1,15 @@
 -- Laws that need inverses: scaling by a nonzero weight, the normal multiple, uniqueness.
 use mathlib.Core.Path.{_≡_, refl, ap, ap₂, sym, _∙_}
-use mathlib.Core.Bool.{Bool, true, false, cond, _&&_}
+use mathlib.Core.Bool.{Bool, true, false, cond, _&&_, true≢false}
 use mathlib.Core.Option.{some}
 use Prim.Native.Nat.{ℕ, suc, _<_}
 use Rattle.field.specs.Weight.{Weight, 0W, 1W, timesW, inverseW, Nonzero}
-use Rattle.field.specs.Ring.{timesW-comm, timesW-one}
+use Rattle.field.specs.Ring.{not-zero, timesW-comm, timesW-one}
 use Rattle.field.specs.Inverse.{inverse, times-nonzero, inverse-nonzero, inverse-one, inverse-times}
 pub use Rattle.diagram.specs.TestLaws.{cases, no-some}
 use Rattle.diagram.specs.TestLaws.{cond-ap, test-ext}
 use Rattle.diagram.specs.Tensor.{Tensor, weight, split, Normal, same, constant, isZero, scale, first, top, top2, lower, joined, normal, multiple}
-use Rattle.diagram.specs.TensorLaws.{same-eq, eq-same, scale-scale, scale-one, scale-zero, isZero-eq, isZero-constant}
+use Rattle.diagram.specs.TensorLaws.{same-eq, eq-same, scale-scale, scale-one, scale-zero, isZero-eq, isZero-constant, zero-scale}
 use Rattle.diagram.specs.TopLaws.{From, top-constant, top-joined}
 
 pub top-nonzero : {d : ℕ} (k : ℕ) (T : Tensor d) → top T ≡ some k → isZero T ≡ false
@@ -90,6 +90,14 @@ unique-tensor v w A B n m a b e = scale-cancel n (e ∙ ap (λ x. scale x B) (sy
 pub multiple-scale : {d : ℕ} (a b : Weight) (A B : Tensor d) → Nonzero a → Nonzero b → multiple (scale a A) (scale b B) ≡ multiple A B
 unfolding multiple
 multiple-scale a b A B n m = ap₂ same (normal-scale a A n) (normal-scale b B m)
+
+-- of tensors that are not zero: `multiple` says that one is a multiple of the other
+pub multiple-of : {d : ℕ} (c : Weight) (A B : Tensor d) → isZero A ≡ false → A ≡ scale c B → multiple A B ≡ true
+unfolding multiple
+multiple-of {d} c A B n e = eq-same (rw e (normal-scale c B (not-zero c zero)))
+  where
+    zero : c ≡ 0W → ⊥
+    zero z = true≢false (sym (rw (e, z, zero-scale B) (isZero-constant d)) ∙ n)
 
 pub multiple-eq : {d : ℕ} (A B : Tensor d) → isZero A ≡ false → isZero B ≡ false → multiple A B ≡ true → (c : Weight) × Nonzero c × (B ≡ scale c A)
 unfolding multiple normal
