@@ -1,41 +1,25 @@
--- Document 01's marked cases d to k, and its session printed whole: one table, computed by the checker with 3 indices, and one theorem that
--- carries it to the engine's 24. (Cases a, b and c are the field's.)
-use mathlib.Core.Path.{_≡_, refl, ap, _∙_}
-use mathlib.Core.Bool.{Bool, true, _&&_, xor}
+-- Document 01's marked cases a to k, and its session printed whole: one table. (That it holds: CasesLaws.)
+use mathlib.Core.Path.{_≡_}
 use mathlib.Core.List.{List, [], _∷_}
 use Prim.Native.Nat.{ℕ}
 use Prim.Native.String.{String}
-use Rattle.text.specs.Text as text
-use Rattle.text.specs.Gates as names
-use Rattle.text.specs.Calls as calls
-use Rattle.text.specs.Answers as answers
-use Rattle.text.specs.Verdict as texts
-use Rattle.text.specs.Session as sessions
-use Rattle.text.specs.VerdictRun as runs
-use Rattle.text.specs.GrowSession as growing
-use Rattle.field.specs.Weight as weights
-use Rattle.diagram.specs.Tensor as tensor
-use Rattle.diagram.specs.Tally as tally
-use Rattle.diagram.specs.Gates as gates
-use Rattle.diagram.specs.Tabulate as tabulates
-use Rattle.diagram.specs.Descend as descends
-use Rattle.diagram.specs.Compare as compares
-use Rattle.diagram.specs.Tensor.{indices}
-use Rattle.diagram.specs.Grow.{indices-deeper}
-use Rattle.diagram.specs.TestLaws.{and-left, and-right}
-use Rattle.text.specs.Text.{bytes, lines}
-use Rattle.text.specs.Session.{most, Run, session}
-use Rattle.text.specs.Verdict.{readText}
+use Rattle.field.specs.Weight.{Weight, toWeight, timesW, eighthRoot, imaginaryUnit, rootTwo, inverseRootTwo}
+use Rattle.text.specs.Text.{bytes}
+use Rattle.text.specs.Session.{most, session}
 use Rattle.text.specs.VerdictRun.{outcome}
-use Rattle.text.specs.GrowSession.{linesTouch, readingTouches, session-grows, outcome-grows, growRun}
 
--- a session over a store of some capacity, or a verdict; what is fed, and what is printed
+-- a named weight and its number; a product of two weights, by their numbers; a session over a store of some capacity, or a verdict: what is
+-- fed, and what is printed
 pub data Case : Type 0 where
+  constant-is : Weight → ℕ → Case
+  product-is : ℕ → ℕ → ℕ → Case
   session-prints : ℕ → String → String → Case
   verdict-prints : ℕ → String → String → Case
 
 -- what a case says with d indices: all output fits
 abbrev pub Says : ℕ → Case → Type 0
+Says d (constant-is w n) = w .number ≡ n
+Says d (product-is a b c) = timesW (toWeight a) (toWeight b) .number ≡ c
 Says d (session-prints capacity text out) = session d (most capacity) 4096 (bytes text) .output ≡ bytes out
 Says d (verdict-prints capacity text out) = outcome d (most capacity) 32 (bytes text) ≡ (0, bytes out)
 
@@ -45,8 +29,17 @@ AllSay d (c ∷ cs) = Says d c × AllSay d cs
 
 abbrev pub table : List Case
 table =
+    -- "The eighth root is 16, i is 256, root two is 61457, and its inverse h is 63497."
+    constant-is eighthRoot 16
+    ∷ constant-is imaginaryUnit 256
+    ∷ constant-is rootTwo 61457
+    ∷ constant-is inverseRootTwo 63497
+    -- "256 times 256 is 65536 (a); 61457 squared is 2 (b); 61457 times 63497 is 1 (c)"
+    ∷ product-is 256 256 65536
+    ∷ product-is 61457 61457 2
+    ∷ product-is 61457 63497 1
     -- "`unit 0 1` needs 3 nodes, full at capacity 2 (d, e)"
-    session-prints 3 "unit\t0\t1\n" "ok\t3\n"
+    ∷ session-prints 3 "unit\t0\t1\n" "ok\t3\n"
     ∷ session-prints 2 "unit\t0\t1\n" "no\t8\n"
     -- "H fits capacity 2, not 1 (f, g)"
     ∷ session-prints 2 "gate\t0\tH\t0\n" "ok\t2\n"
@@ -62,70 +55,3 @@ table =
     "gate\t0\tH\t0\nadd\t1\t0\t0\ncmp\t1\t0\nat\t0\t6\nlow\t2\t0\t2\ndrop\t0\ncollect\ncmp\t0\t1\n"
     "ok\t2\nok\t2\nfactor\t2\nv\t2040\nno\t7\nok\t2\nok\t2\nno\t3\n"
     ∷ []
-
--- computed with 3 indices
-
-with-three : AllSay 3 table
-unfolding text.sameBytes text.onto text.parts text.lines text.fields text.digit text.digitsFrom text.needless text.numberOf names.choose
-    names.oneQubit names.twoQubits calls.wordOf calls.numbers calls.byCount calls.register calls.within calls.apart calls.callOf calls.gateFields
-    calls.callFields calls.readLine answers.digits answers.decimal answers.answered answers.printed texts.headerNumbers texts.headerFields
-    texts.headerOf texts.ensured texts.gateNumbers texts.gateFields texts.itemOf texts.withFirst texts.withSecond texts.secondItem texts.secondList
-    texts.firstItem texts.firstList texts.afterHeader texts.readLines texts.readText texts.printedRuling sessions.start sessions.count sessions.refuse
-    sessions.accept sessions.settle sessions.holding sessions.register sessions.answer sessions.begun sessions.more sessions.stopped sessions.run
-    sessions.session runs.middles runs.lows runs.gateCalls runs.atLine runs.gatesCalls runs.listCalls runs.sessionCalls runs.onward runs.perform
-    runs.judged runs.verdictOf runs.verdict runs.outcome tensor.at tensor.bits tensor.value tensor.same tensor.constant tensor.top tensor.fix
-    tensor.depends tensor.isZero tensor.first tensor.joined tensor.scale tensor.normal tensor.multiple tensor.plus tensor.top2 tensor.times
-    tensor.members tensor.power2 tensor.set tally.return tally._>>=_ tally.member tally.put tally.joinCases tally.join tally.both tally.sumCases
-    tally.sumBody tally.sum tally.contCases tally.contBody tally.cont tally.halves tally.lowAt tally.lowCases tally.lowBody tally.low tally.buildCases
-    tally.buildBody tally.build tally.fixBoth tally.fixed tally.normalAt tally.normals tally.keeps tally.within tally.collect tally.filled
-    gates.matrix gates.onQubit gates.entry gates.gateTensor gates.straight gates.unitEntry gates.unitTensor tabulates.tabulate descends.descendF
-    descends.descend descends.rank descends.onTop descends.onTop2 compares.ratio compares.compared weights.toWeight weights.0W weights.1W
-    weights.plusW weights.timesW weights.negateW weights.sameW weights.onesPower weights.inverseW weights.eighthRoot weights.imaginaryUnit
-    weights.rootTwo weights.inverseRootTwo xor
-with-three = (refl, (refl, (refl, (refl, (refl, (refl, (refl, (refl, (refl, tt)))))))))
-
--- does a case touch only the lowest d indices?
-unfoldable touching : ℕ → Case → Bool
-touching d (session-prints capacity text out) = linesTouch d (lines (bytes text))
-touching d (verdict-prints capacity text out) = readingTouches d (readText (bytes text))
-
-unfoldable allTouching : ℕ → List Case → Bool
-allTouching d [] = true
-allTouching d (c ∷ cs) = touching d c && allTouching d cs
-
-table-touches : allTouching 3 table ≡ true
-unfolding touching allTouching growing.qubitsBelow growing.touches growing.allTouch growing.linesTouch growing.readingTouches text.sameBytes text.onto
-    text.parts text.lines text.fields text.digit text.digitsFrom text.needless text.numberOf names.choose names.oneQubit names.twoQubits calls.wordOf
-    calls.numbers calls.byCount calls.register calls.within calls.apart calls.callOf calls.gateFields calls.callFields calls.readLine answers.digits
-    answers.decimal answers.answered answers.printed texts.headerNumbers texts.headerFields texts.headerOf texts.ensured texts.gateNumbers
-    texts.gateFields texts.itemOf texts.withFirst texts.withSecond texts.secondItem texts.secondList texts.firstItem texts.firstList texts.afterHeader
-    texts.readLines texts.readText texts.printedRuling sessions.start sessions.count sessions.refuse sessions.accept sessions.settle sessions.holding
-    sessions.register sessions.answer sessions.begun sessions.more sessions.stopped sessions.run sessions.session runs.middles runs.lows
-    runs.gateCalls runs.atLine runs.gatesCalls runs.listCalls runs.sessionCalls runs.onward runs.perform runs.judged runs.verdictOf runs.verdict
-    runs.outcome tensor.at tensor.bits tensor.value tensor.same tensor.constant tensor.top tensor.fix tensor.depends tensor.isZero tensor.first
-    tensor.joined tensor.scale tensor.normal tensor.multiple tensor.plus tensor.top2 tensor.times tensor.members tensor.power2 tensor.set tally.return
-    tally._>>=_ tally.member tally.put tally.joinCases tally.join tally.both tally.sumCases tally.sumBody tally.sum tally.contCases tally.contBody
-    tally.cont tally.halves tally.lowAt tally.lowCases tally.lowBody tally.low tally.buildCases tally.buildBody tally.build tally.fixBoth tally.fixed
-    tally.normalAt tally.normals tally.keeps tally.within tally.collect tally.filled gates.matrix gates.onQubit gates.entry gates.gateTensor
-    gates.straight gates.unitEntry gates.unitTensor tabulates.tabulate descends.descendF descends.descend descends.rank descends.onTop descends.onTop2
-    compares.ratio compares.compared weights.toWeight weights.0W weights.1W weights.plusW weights.timesW weights.negateW weights.sameW
-    weights.onesPower weights.inverseW weights.eighthRoot weights.imaginaryUnit weights.rootTwo weights.inverseRootTwo xor
-table-touches = refl
-
--- a case that touches only the lowest 3 indices says the same with the engine's 24
-carried : (c : Case) → touching 3 c ≡ true → Says 3 c → Says indices c
-unfolding touching growRun
-carried (session-prints capacity text out) e h =
-    rw indices-deeper (ap (λ (r : Run _). r .output) (session-grows 3 21 (most capacity) 4096 (bytes text) e) ∙ h)
-carried (verdict-prints capacity text out) e h =
-    rw indices-deeper (outcome-grows 3 21 (most capacity) 32 (bytes text) e ∙ h)
-
-carried-all : (cs : List Case) → allTouching 3 cs ≡ true → AllSay 3 cs → AllSay indices cs
-unfolding allTouching
-carried-all [] e h = tt
-carried-all (c ∷ cs) e h =
-    (carried c (and-left _ _ e) (h .0), carried-all cs (and-right (touching 3 c) (allTouching 3 cs) e) (h .1))
-
--- Document 01's marked cases d to k, and its session printed whole, bytes for bytes.
-pub marked : AllSay indices table
-marked = carried-all table table-touches with-three

@@ -10,6 +10,7 @@ pub mod VerdictRun
 pub mod Agrees
 pub mod Product
 pub mod VerdictMeaning
+pub mod VerdictBytes
 -- what the code's proofs use of them
 pub mod Split
 pub mod Same
@@ -26,6 +27,7 @@ pub mod VerdictLaws
 pub mod Check
 pub mod Lists
 pub mod RulingLaws
+pub mod PrintedLaws
 -- laws of the tally, of a verdict's session and of what it means
 pub mod SessionLaws
 pub mod TallyLaws
