@@ -1,4 +1,4 @@
--- What gates, `unit`, sum, contraction and lowering answer, in document 01's words: at each assignment v, written as a number.
+-- What gates, `unit`, sum, contraction and lowering answer, in document 01's words: at each assignment v, as a number.
 use mathlib.Core.Path.{_≡_, refl, ap, sym, _∙_}
 use mathlib.Core.Logic.{_↔_}
 use mathlib.Core.List.{List}
@@ -59,7 +59,7 @@ module _ {c' s s' : List ℕ} {st t : State} {e : Edge} (a b : Edge) where
       → value (tensorOf s' t e) v ≡ settings indices (bits m) (λ f. timesW (at (tensorOf s st a) f) (at (tensorOf s st b) f)) (bits v)
   contract-answer m w v = rw (answer-tensor (w .done)) (cont-value (setOf s st) (tensorOf s st a) (tensorOf s st b) (bits m) v)
 
--- "index k is renamed k-1", for k = j + 1: at v the answer has the value that a has where index j + 1 takes the value of j
+-- "index k is renamed k-1", for k = j + 1: at v the answer has a's value where index j + 1 takes the value of j
 pub lower-answer : {c' s s' : List ℕ} {st t : State} {e : Edge} (a : Edge) (j : ℕ) → j < 23 → Free j (tensorOf s st a)
     → Worked c' s s' st t (low (j + 1) (tensorOf s st a)) e → (v : ℕ)
     → value (tensorOf s' t e) v ≡ at (tensorOf s st a) (set (j + 1) (bits v j) (bits v))

@@ -8,8 +8,8 @@ use Rattle.text.specs.Text.{bytes}
 use Rattle.text.specs.Session.{most, session}
 use Rattle.text.specs.VerdictRun.{outcome}
 
--- a named weight and its number; a product of two weights, by their numbers; a session over a store of some capacity, or a verdict: what is
--- fed, and what is printed
+-- a named weight and its number; a product of two weights, by their numbers; a session over a store of some capacity,
+-- or a verdict: what is fed, and what is printed
 pub data Case : Type 0 where
   constant-is : Weight → ℕ → Case
   product-is : ℕ → ℕ → ℕ → Case

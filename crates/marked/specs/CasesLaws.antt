@@ -1,4 +1,5 @@
--- The table of marked cases holds: it is computed with 3 indices, and a case that touches no others says the same with the engine's 24.
+-- The table of marked cases holds: it is computed with 3 indices, and a case that touches no others says the same with
+-- the engine's 24.
 use mathlib.Core.Path.{_≡_, refl, ap, _∙_}
 use mathlib.Core.Bool.{Bool, true, _&&_, xor}
 use mathlib.Core.List.{List, [], _∷_}
@@ -61,7 +62,10 @@ unfolding touching allTouching growing.qubitsBelow growing.touches growing.allTo
     descends.rank descends.onTop descends.onTop2 compares.ratio compares.compared weights.toWeight weights.0W
     weights.1W weights.plusW weights.timesW weights.negateW weights.sameW weights.onesPower weights.inverseW
     weights.eighthRoot weights.imaginaryUnit weights.rootTwo weights.inverseRootTwo xor
-with-three = ((refl, (refl, (refl, (refl, (refl, (refl, (refl, (refl, (refl, (refl, (refl, (refl, (refl, (refl, (refl, (refl, tt)))))))))))))))), refl)
+with-three = (
+  (refl, (refl, (refl, (refl, (refl, (refl, (refl, (refl, (refl, (refl, (refl, (refl, (refl, (refl, (refl, (refl, tt)))))))))))))))),
+  refl,
+)
 
 -- a case that touches only the lowest 3 indices says the same with the engine's 24
 carried : (c : Case) → touching 3 c ≡ true → Says 3 c → Says indices c

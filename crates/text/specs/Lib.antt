@@ -37,6 +37,7 @@ pub mod VerdictLists
 pub mod StateSums
 pub mod ProductLaws
 pub mod VerdictMeaningLaws
+pub mod VerdictLineLaws
 pub mod GrowSession
 -- the engine between two lines, its calls, and the run
 pub mod Engine
@@ -50,5 +51,6 @@ pub mod ApplyLaws
 pub mod Perform
 pub mod Stage
 pub mod Judge
+pub mod VerdictBytesLaws
 -- the calls for programs in other languages
 pub mod Export

@@ -1,4 +1,4 @@
--- The bytes of a verdict's answer determine the answer: digits determine the number, fields end where a tab or LF stands.
+-- The bytes of a verdict's answer determine the answer: digits determine a number, and a field ends at its tab or LF.
 use mathlib.Core.Path.{_≡_, refl, ap, sym, subst, _∙_}
 use mathlib.Core.Bool.{Bool, true, false, cond}
 use mathlib.Core.List.{[], _∷_, _++_}
@@ -8,7 +8,7 @@ use native.Mathlib.Omega.{arith}
 use native.Mathlib.Decide.{decLt}
 use lib.Dec.{eqb, ltb}
 use borrow.Author.Tests.{lt-ltb, le-ltb}
-use lib.ListN.{length, length-append, getD}
+use lib.ListN.{length, length-append}
 use Rattle.text.specs.Text.{Bytes, LF, tab}
 use Rattle.text.specs.Answers.{digits, decimal, answered, printed}
 use Rattle.text.specs.Print.{decimal-length}
@@ -59,14 +59,15 @@ long k n h = rw (le-ltb n 10 h)
 one-many : (k n m : ℕ) → n < 10 → 10 ≤ m → m < 10 ^ suc k → digits (suc k) n ≡ digits (suc k) m → ⊥
 one-many zero n m p q b e = omega arith
 one-many (suc k) n m p q b e =
-    let z = last-same [] (digits (suc k) (m / 10)) (48 + n) (48 + m % 10) (sym (short (suc k) n p) ∙ e ∙ long (suc k) m q) in
+    let f = sym (short (suc k) n p) ∙ e ∙ long (suc k) m q in
+    let z = last-same [] (digits (suc k) (m / 10)) (48 + n) (48 + m % 10) f in
     omega (arith, ap length (z .0), digits-some k (m / 10))
 
 pub digits-injective : (k n m : ℕ) → n < 10 ^ k → m < 10 ^ k → digits k n ≡ digits k m → n ≡ m
 digits-injective zero n m p q e = omega arith
 digits-injective (suc k) n m p q e =
     let fewer : digits k (n / 10) ≡ digits k (m / 10) → n / 10 ≡ m / 10 =
-        digits-injective k (n / 10) (m / 10) (omega (arith, p, pow-suc 10 k)) (omega (arith, q, pow-suc 10 k)) in
+    digits-injective k (n / 10) (m / 10) (omega (arith, p, pow-suc 10 k)) (omega (arith, q, pow-suc 10 k)) in
     elim (decLt n 10) [
       | yes h ↦ elim (decLt m 10) [ yes g ↦ small h g | no g ↦ absurd (one-many k n m h (omega arith) q e) ]
       | no h ↦ elim (decLt m 10) [
@@ -80,7 +81,8 @@ digits-injective (suc k) n m p q e =
 
     large : (digits k (n / 10) ≡ digits k (m / 10) → n / 10 ≡ m / 10) → 10 ≤ n → 10 ≤ m → n ≡ m
     large fewer h g =
-        let z = last-same (digits k (n / 10)) (digits k (m / 10)) (48 + n % 10) (48 + m % 10) (sym (long k n h) ∙ e ∙ long k m g) in
+        let f = sym (long k n h) ∙ e ∙ long k m g in
+        let z = last-same (digits k (n / 10)) (digits k (m / 10)) (48 + n % 10) (48 + m % 10) f in
         omega (arith, z .1, fewer (z .0))
 
 ten-power : (k : ℕ) → 1 ≤ 10 ^ k
@@ -105,7 +107,10 @@ decimal-injective n m p q e = digits-injective 20 n m p q e
 
 -- a number of at most 19 digits is determined among all numbers
 pub decimal-exact : (n m : ℕ) → n < 10 ^ 19 → decimal n ≡ decimal m → n ≡ m
-decimal-exact n m p e = elim (decLt m (10 ^ 20)) [ yes q ↦ decimal-injective n m (omega arith) q e | no q ↦ absurd (cut (omega arith)) ]
+decimal-exact n m p e = elim (decLt m (10 ^ 20)) [
+  | yes q ↦ decimal-injective n m (omega arith) q e
+  | no q ↦ absurd (cut (omega arith))
+]
   where
     cut : 10 ^ 20 ≤ m → ⊥
     cut q = omega (arith, decimal-length n 19 (omega arith) p, ap length e, decimal-cut m q)
@@ -146,7 +151,8 @@ seam b (x ∷ s) (y ∷ t) u v l p q e =
 faultOf : ℕ → Fault
 faultOf n =
     cond (eqb n 10) faults.Header
-    (cond (eqb n 11) faults.Line (cond (eqb n 12) faults.Qubit (cond (eqb n 13) faults.Equal (cond (eqb n 14) faults.Parting faults.Full))))
+    (cond (eqb n 11) faults.Line
+    (cond (eqb n 12) faults.Qubit (cond (eqb n 13) faults.Equal (cond (eqb n 14) faults.Parting faults.Full))))
 
 fault-of-number : (f : Fault) → faultOf (faultNumber f) ≡ f
 unfolding faultOf
@@ -203,23 +209,29 @@ printed-differ Differ e = refl
 printed-differ (No g l) e = absurd (let z : _≡_ {A = ℕ} 110 100 = head-same e in omega arith)
 
 -- a factor, up to its digits
-pub printed-factor : (r : Ruling) (f : ℕ) → printedRuling r ≡ factorLine f → (g : ℕ) × (r ≡ Factor g) × (decimal g ≡ decimal f)
+pub printed-factor : (r : Ruling) (f : ℕ) → printedRuling r ≡ factorLine f
+    → (g : ℕ) × (r ≡ Factor g) × (decimal g ≡ decimal f)
 unfolding printedRuling printed answered
 printed-factor Same f e = absurd (let z : _≡_ {A = ℕ} 115 102 = head-same e in omega arith)
-printed-factor (Factor g) f e =
-    (g, refl, seam LF (decimal g) (decimal f) [] [] (omega arith) (visible g) (visible f)
-    (tail-same (tail-same (tail-same (tail-same (tail-same (tail-same (tail-same e))))))) .0)
+printed-factor (Factor g) f e = (
+  g,
+  refl,
+  seam LF (decimal g) (decimal f) [] [] (omega arith) (visible g) (visible f)
+      (tail-same (tail-same (tail-same (tail-same (tail-same (tail-same (tail-same e))))))) .0,
+)
 printed-factor Differ f e = absurd (let z : _≡_ {A = ℕ} 100 102 = head-same e in omega arith)
 printed-factor (No g l) f e = absurd (let z : _≡_ {A = ℕ} 110 102 = head-same e in omega arith)
 
 -- a refusal, up to the digits of its line
-pub printed-no : (r : Ruling) (f : Fault) (line : ℕ) → printedRuling r ≡ noLine f line → (l : ℕ) × (r ≡ No f l) × (decimal l ≡ decimal line)
+pub printed-no : (r : Ruling) (f : Fault) (line : ℕ) → printedRuling r ≡ noLine f line
+    → (l : ℕ) × (r ≡ No f l) × (decimal l ≡ decimal line)
 unfolding printedRuling printed answered
 printed-no Same f line e = absurd (let z : _≡_ {A = ℕ} 115 110 = head-same e in omega arith)
 printed-no (Factor g) f line e = absurd (let z : _≡_ {A = ℕ} 102 110 = head-same e in omega arith)
 printed-no Differ f line e = absurd (let z : _≡_ {A = ℕ} 100 110 = head-same e in omega arith)
 printed-no (No g l) f line e =
-    let p = seam tab (decimal (faultNumber g)) (decimal (faultNumber f)) _ _ (omega arith) (visible (faultNumber g)) (visible (faultNumber f))
+    let p = seam tab (decimal (faultNumber g)) (decimal (faultNumber f)) _ _ (omega arith)
+    (visible (faultNumber g)) (visible (faultNumber f))
     (tail-same (tail-same (tail-same e))) in
     let q = seam LF (decimal l) (decimal line) [] [] (omega arith) (visible l) (visible line) (p .1) in
     let n = decimal-exact (faultNumber g) (faultNumber f) (number-short g) (p .0) in

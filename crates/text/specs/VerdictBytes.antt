@@ -1,4 +1,5 @@
--- What the bytes that a verdict writes say: demand 2 and document 01's "Verdicts", for who reads the output alone (the theorems: VerdictBytesLaws).
+-- What the bytes that a verdict writes say: demand 2 and document 01's "Verdicts", for who reads the output alone (its
+-- theorems: VerdictBytesLaws).
 use mathlib.Core.Path.{_≡_}
 use mathlib.Core.Logic.{_≢_, _↔_, _⊎_}
 use mathlib.Core.List.{List, _++_}
@@ -19,7 +20,8 @@ use Rattle.text.specs.declared.verdict.Fault.{Fault}
 use Rattle.text.specs.declared.verdict.Fault.the-variants.{Full}
 use Rattle.text.specs.declared.ruling.Verdict.{Verdict}
 
--- "An answer's fields are parted by one tab, and it ends in LF.": `same`; `factor` and f; `differ`; "`no`, number, line counted from 1"
+-- "An answer's fields are parted by one tab, and it ends in LF.": `same`; `factor` and f; `differ`; "`no`, number,
+-- line counted from 1"
 abbrev pub sameLine : Bytes
 sameLine = bytes "same\n"
 
@@ -32,6 +34,11 @@ differLine = bytes "differ\n"
 abbrev pub noLine : Fault → ℕ → Bytes
 noLine f line = bytes "no\t" ++ (decimal (faultNumber f) ++ (bytes "\t" ++ (decimal line ++ bytes "\n")))
 
+abbrev pub OneOfFour : Bytes → Type 0
+OneOfFour w =
+    (w ≡ sameLine)
+    ⊎ (((f : ℕ) × (w ≡ factorLine f)) ⊎ ((w ≡ differLine) ⊎ ((f : Fault) × (line : ℕ) × (w ≡ noLine f line))))
+
 -- What a list stands for: its tensor, "the one its register ends with at unlimited capacity" ..
 abbrev pub IsTensorOf : ℕ → List Gate → Tensor indices → Type 0
 IsTensorOf n gs A = listTensor indices n gs ≡ some A
@@ -41,7 +48,8 @@ abbrev pub IsMatrixOf : ℕ → List Gate → Operator → Type 0
 IsMatrixOf n gs M = M ≡ listMatrix n gs
 
 -- The text is good, no call of its session is refused as full, and P holds of what its two lists stand for.
-pub record ListsAre {X : Type 0} (Of : ℕ → List Gate → X → Type 0) (c : Capacity) (text : Bytes) (P : X → X → Type 0) : Type 0 where
+pub record ListsAre {X : Type 0} (Of : ℕ → List Gate → X → Type 0) (c : Capacity) (text : Bytes) (P : X → X → Type 0)
+    : Type 0 where
   pub n : ℕ
   pub gs : List Gate
   pub hs : List Gate
@@ -61,12 +69,18 @@ pub record FullAt (c : Capacity) (text : Bytes) (line : ℕ) : Type 0 where
   pub good : readText text ≡ lists n gs hs
   pub full : perform {d = indices} c (sessionCalls n gs hs) start ≡ refused line refusal.Full
 
--- "All lines are read before any gate runs; the first faulty line decides.": the text's first fault is f at that line; or it is good and full there
+-- "All lines are read before any gate runs; the first faulty line decides.": the text's first fault is f at that line;
+-- or it is good and full there
 abbrev pub RefusedAt : Capacity → Bytes → Fault → ℕ → Type 0
 RefusedAt c text f line = (readText text ≡ fault f line) ⊎ ((f ≡ Full) × FullAt c text line)
 
--- The verdict on a text over a store s, for an output of 32 bytes or more: o as it was lent, o' as it is left. Two lists are compared by what
--- they stand for: E A B says that A and B are equal, T f A B that A is f times B, f being a weight and not 0.
+-- the bytes written: the first of the output o', as many as the result says
+abbrev pub bytesOf : Verdict → Bytes → Bytes
+bytesOf r o' = take (r .bytes) o'
+
+-- The verdict on a text over a store s, for an output of 32 bytes or more: o as it was lent, o' as it is left. Two
+-- lists are compared by what they stand for: E A B says that A and B are equal, T f A B that A is f times B, f being a
+-- weight and not 0.
 pub record VerdictBytes {X : Type 0} (Of : ℕ → List Gate → X → Type 0) (E : X → X → Type 0) (T : ℕ → X → X → Type 0)
     (text s o o' : Bytes) (r : Verdict) : Type 0 where
   -- "otherwise the code is 0, also with `no`. The result is code and bytes written; later bytes are untouched"
@@ -74,24 +88,26 @@ pub record VerdictBytes {X : Type 0} (Of : ℕ → List Gate → X → Type 0) (
   pub within : r .bytes ≤ length o'
   pub untouched : drop (r .bytes) o' ≡ drop (r .bytes) o
   -- "A verdict is "same" exactly when both lists' tensors agree at every assignment over document 01's field,
-  pub same : (take (r .bytes) o' ≡ sameLine) ↔ ListsAre Of (most (capacity s)) text E
+  pub same : (bytesOf r o' ≡ sameLine) ↔ ListsAre Of (most (capacity s)) text E
   -- "factor" exactly when they differ and one is a nonzero multiple of the other,
-  pub factor : ((f : ℕ) × (take (r .bytes) o' ≡ factorLine f))
+  pub factor : ((f : ℕ) × (bytesOf r o' ≡ factorLine f))
       ↔ ListsAre Of (most (capacity s)) text (λ A B. (¬ E A B) × ((f : ℕ) × (T f A B ⊎ T f B A)))
-  -- else "differ""
-  pub differ : (take (r .bytes) o' ≡ differLine)
+  -- else "differ"";
+  pub differ : (bytesOf r o' ≡ differLine)
       ↔ ListsAre Of (most (capacity s)) text (λ A B. (¬ E A B) × (¬ ((f : ℕ) × (T f A B ⊎ T f B A))))
   -- which f: "`factor` and f where a is f times b, f not 0 or 1"
-  pub factor-of : (f : ℕ) → (take (r .bytes) o' ≡ factorLine f)
+  pub factor-of : (f : ℕ) → (bytesOf r o' ≡ factorLine f)
       ↔ ListsAre Of (most (capacity s)) text (λ A B. (¬ E A B) × (f ≢ 1) × T f A B)
-  -- "Refused as `no`, number, line counted from 1". A text that is lent is shorter than 2 ^ 64 bytes, and the line is one of it or the next.
+  -- "full stores, malformed texts .. are refused by the stated rules": "Refused as `no`, number, line counted from 1".
+  -- A text that is lent is shorter than 2 ^ 64 bytes, and the line is one of it or the next, so that 20 digits hold it.
   pub no : length text < 2 ^ 64 → (f : Fault) (line : ℕ) → line < 10 ^ 20
-      → (take (r .bytes) o' ≡ noLine f line) ↔ RefusedAt (most (capacity s)) text f line
+      → (bytesOf r o' ≡ noLine f line) ↔ RefusedAt (most (capacity s)) text f line
   pub no-line : (f : Fault) (line : ℕ) → RefusedAt (most (capacity s)) text f line → line ≤ length text + 1
+  -- and of a text of any length the fault, and a line with these digits
+  pub no-digits : (f : Fault) (line : ℕ)
+      → (bytesOf r o' ≡ noLine f line) ↔ ((l : ℕ) × (decimal l ≡ decimal line) × RefusedAt (most (capacity s)) text f l)
   -- and nothing else is ever written
-  pub one-of-four : (take (r .bytes) o' ≡ sameLine)
-      ⊎ (((f : ℕ) × (take (r .bytes) o' ≡ factorLine f))
-      ⊎ ((take (r .bytes) o' ≡ differLine) ⊎ ((f : Fault) × (line : ℕ) × (take (r .bytes) o' ≡ noLine f line))))
+  pub one-of-four : OneOfFour (bytesOf r o')
 
 -- "Fewer than 32 output bytes returns 9 and writes nothing"
 pub record VerdictShort (o o' : Bytes) (r : Verdict) : Type 0 where

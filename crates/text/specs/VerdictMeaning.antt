@@ -16,7 +16,7 @@ use Rattle.text.specs.declared.verdict.Fault.{Fault}
 use Rattle.text.specs.declared.verdict.Fault.the-variants.{Full}
 use Rattle.text.specs.declared.ruling.Ruling.the-variants.{Same, Factor, Differ, No}
 
--- the text is not refused as full
+-- the text is not refused as full: no call of its session is (verdict-refused in VerdictMeaningLaws)
 abbrev pub NotFull : Capacity → Bytes → Type 0
 NotFull c text = (line : ℕ) → verdict indices c text ≢ No Full line
 

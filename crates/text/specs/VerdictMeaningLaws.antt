@@ -20,7 +20,7 @@ use Rattle.text.specs.Text.{Bytes, bytes, sameBytes, lines, fields}
 use Rattle.text.specs.Gates.{oneQubit, twoQubits, known}
 use Rattle.text.specs.Calls.{numbers}
 use Rattle.text.specs.Ranges.{by-count}
-use Rattle.text.specs.Session.{Capacity, unlimited, comparison}
+use Rattle.text.specs.Session.{Capacity, unlimited, start, answer, comparison}
 use Rattle.text.specs.Verdict.{
   Reading,
   lists,
@@ -42,13 +42,17 @@ use Rattle.text.specs.Verdict.{
   readLines,
   readText,
 }
-use Rattle.text.specs.VerdictRun.{rulingOf, verdictOf, verdict}
-use Rattle.text.specs.VerdictRunLaws.{AllFit, appliedAll, list-tensor}
+use Rattle.text.specs.VerdictRun.{Outcome, refused, sessionCalls, perform, rulingOf, judged, verdictOf, verdict}
+use Rattle.text.specs.VerdictRunLaws.{AllFit, appliedAll, Registers, Runs, full, end, session-runs, list-tensor}
 use Rattle.text.specs.VerdictLists.{AllPlaced, placed-fit, GoodLists, good-lists, Judged, was-full, was-compared, verdict-judged}
 use Rattle.text.specs.Product.{listMatrix}
 use Rattle.text.specs.ProductLaws.{lists-same, lists-multiple}
 use Rattle.text.specs.VerdictMeaning.{NotFull, IsTimes, VerdictMeans, MatrixIsTimes, VerdictMatrices}
+use Rattle.text.specs.declared.answer.Answer.{Answer}
+use Rattle.text.specs.declared.answer.Answer.the-variants as answers
 use Rattle.text.specs.declared.args.Args.the-variants.{None}
+use Rattle.text.specs.declared.call.Call.the-variants as call
+use Rattle.text.specs.declared.call.Refusal.the-variants as refusal
 use Rattle.text.specs.declared.names.Named.{Named}
 use Rattle.text.specs.declared.names.Named.the-variants as named
 use Rattle.text.specs.declared.verdict.Fault.{Fault}
@@ -94,12 +98,12 @@ Said E M N (Factor f) = (¬ E) × (f ≢ 1) × M f
 Said E M N Differ = (¬ E) × (¬ ((f : ℕ) × (M f ⊎ N f)))
 Said E M N (No f line) = ⊥
 
-record Meaning (r : Ruling) (E : Type 0) (M N : ℕ → Type 0) : Type 0 where
-  same : (r ≡ Same) ↔ E
-  factor : ((f : ℕ) × (r ≡ Factor f)) ↔ ((¬ E) × ((f : ℕ) × (M f ⊎ N f)))
-  differ : (r ≡ Differ) ↔ ((¬ E) × (¬ ((f : ℕ) × (M f ⊎ N f))))
-  no-other : (f : Fault) (line : ℕ) → r ≢ No f line
-  factor-of : (f : ℕ) → (r ≡ Factor f) ↔ ((¬ E) × (f ≢ 1) × M f)
+pub record Meaning (r : Ruling) (E : Type 0) (M N : ℕ → Type 0) : Type 0 where
+  pub same : (r ≡ Same) ↔ E
+  pub factor : ((f : ℕ) × (r ≡ Factor f)) ↔ ((¬ E) × ((f : ℕ) × (M f ⊎ N f)))
+  pub differ : (r ≡ Differ) ↔ ((¬ E) × (¬ ((f : ℕ) × (M f ⊎ N f))))
+  pub no-other : (f : Fault) (line : ℕ) → r ≢ No f line
+  pub factor-of : (f : ℕ) → (r ≡ Factor f) ↔ ((¬ E) × (f ≢ 1) × M f)
 
 abbrev Tells : {d : ℕ} → Tensor d → Tensor d → Ruling → Type 0
 Tells A B r = Meaning r (A ≡ B) (λ f. Scaled f A B) (λ f. Scaled f B A)
@@ -172,14 +176,47 @@ scaled-values A B f = (
   λ s. record { weight = s .weight; nonzero = s .nonzero; is = agree-exactly A _ .1 (λ v p. s .values v p ∙ sym (scale-value (toWeight f) B v)) },
 )
 
+-- what is refused in a verdict's session is refused as full, and said as that
+
+ruling-not-no : (a : Answer) (f : Fault) (line : ℕ) → rulingOf a ≢ No f line
+ruling-not-no answers.Same f line e = let z : _≡_ {A = ℕ} 0 1 = cc in omega arith
+ruling-not-no (answers.Factor g) f line e = let z : _≡_ {A = ℕ} 0 1 = cc in omega arith
+ruling-not-no answers.Differ f line e = let z : _≡_ {A = ℕ} 0 1 = cc in omega arith
+ruling-not-no (answers.Ok k) f line e = let z : _≡_ {A = ℕ} 0 1 = cc in omega arith
+ruling-not-no (answers.No r) f line e = let z : _≡_ {A = ℕ} 0 1 = cc in omega arith
+ruling-not-no (answers.Value w) f line e = let z : _≡_ {A = ℕ} 0 1 = cc in omega arith
+
+judged-refused : {d : ℕ} (c : Capacity) {P : Registers d → Type 0} {x : Outcome d} → Runs c P x → (f : Fault) (line : ℕ)
+    → (judged c x ≡ No f line) ↔ ((f ≡ faults.Full) × (x ≡ refused line refusal.Full))
+unfolding judged
+judged-refused c (full {line = l} h) f line = (
+  λ e. (let z : f ≡ faults.Full = cc in z, let z : l ≡ line = cc in rw z),
+  λ p. rw (p .0) (let z : l ≡ line = cc in rw z),
+)
+judged-refused c (end {t = t} h) f line = (
+  λ e. absurd (ruling-not-no (answer c (call.Cmp 0 1) t .0) f line e),
+  λ p. absurd (let q = p .1 in let z : _≡_ {A = ℕ} 0 1 = cc in omega arith),
+)
+
 -- For every text of two lists, and every capacity at which it is not refused as full
 
 module _ (c : Capacity) (text : Bytes) {n : ℕ} {gs hs : List Gate} (e : readText text ≡ lists n gs hs) where
   good : GoodLists n gs hs
   good = good-lists text e
 
+  fit : (l : List Gate) → AllPlaced n l → AllFit indices l
+  fit l p = rw indices-24 (placed-fit n l (good .most-qubits) p)
+
   abbrev tensorOf : List Gate → Tensor indices
   tensorOf l = appliedAll l (unitTensor indices n)
+
+  -- a good text is refused exactly where a call of its session is refused as full, at that call's line
+  pub verdict-refused : (f : Fault) (line : ℕ)
+      → (verdict indices c text ≡ No f line)
+      ↔ ((f ≡ faults.Full) × (perform {d = indices} c (sessionCalls n gs hs) start ≡ refused line refusal.Full))
+  unfolding verdict verdictOf
+  verdict-refused f line =
+      rw e (judged-refused c (session-runs c n gs hs (fit gs (good .first)) (fit hs (good .second))) f line)
 
   tells-verdict : NotFull c text → Tells (tensorOf gs) (tensorOf hs) (verdict indices c text)
   tells-verdict h = go (verdict-judged c text e) h
@@ -204,9 +241,6 @@ module _ (c : Capacity) (text : Bytes) {n : ℕ} {gs hs : List Gate} (e : readTe
         no-other = t .no-other;
         factor-of = t .factor-of;
       }
-    where
-      fit : (l : List Gate) → AllPlaced n l → AllFit indices l
-      fit l p = rw indices-24 (placed-fit n l (good .most-qubits) p)
 
   -- and exactly where the products of the gates' matrices do
   pub verdict-matrices : NotFull c text → VerdictMatrices c text n gs hs
