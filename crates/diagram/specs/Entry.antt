@@ -1,23 +1,23 @@
 -- The entries of a gate as the code finds them, and the indices on which they depend.
 use mathlib.Core.Path.{_≡_, refl, ap, sym, _∙_}
 use mathlib.Core.Logic.{_≢_}
-use mathlib.Core.Bool.{Bool, true, false, cond, _&&_, _||_, not, xor, true≢false, false≢true}
-use mathlib.Core.List.{List, [], map}
+use mathlib.Core.Bool.{Bool, true, false, _&&_, _||_, not, true≢false, false≢true}
+use mathlib.Core.List.{List, [], _∷_, map}
 use Prim.Native.Nat.{ℕ, _+_, _*_, _/_, _%_, _<_}
 use native.Mathlib.Omega.{arith}
 use lib.Dec.{eqb}
 use lib.ListN.{getD, List·getD-map}
-use borrow.Author.Tests.{eqb-true, eqb-false, eq-eqb, ne-eqb}
-use Rattle.field.specs.Weight.{Weight, toWeight, 0W, 1W, negateW}
+use borrow.Author.Tests.{eqb-false, eq-eqb, ne-eqb}
+use Rattle.field.specs.Weight.{Weight, toWeight, 0W}
 use Rattle.field.specs.Ring.{weight-number}
 use Rattle.field.specs.Code.{Stands}
 use Rattle.diagram.specs.Tensor.{Bits, bits, middle, fresh, set}
-use Rattle.diagram.specs.TestLaws.{and-left, and-right}
 use Rattle.diagram.specs.BitsLaws.{set-other}
-use Rattle.diagram.specs.Gates.{Matrix, numbers, matrix, bit, onQubit, equal, entry}
-use Rattle.diagram.specs.Matrices.{first, second, paired, double}
+use Rattle.diagram.specs.Gates.{Matrix, numbers, matrix, bit, onQubit, shape, Rule, rule, entryOn, entry}
+use Rattle.diagram.specs.Matrices.{firstOn, secondOn, first, second, pairedOn, paired, tableRow, table}
 use Rattle.diagram.specs.declared.gate.Gate.{Gate}
-use Rattle.diagram.specs.declared.gate.Gate.the-variants as gate
+use Rattle.diagram.specs.declared.gate.Shape.{Shape}
+use Rattle.diagram.specs.declared.gate.Shape.the-variants.{One, Two}
 
 -- "Qubit q (0 to 7)"
 pub record Allowed (g : Gate) : Type 0 where
@@ -43,17 +43,11 @@ numbers-at m i j =
 
 single-entry : (g : Gate) (f : Bits) → paired g ≡ false → entry g f ≡ onQubit (matrix g) (first g) f
 unfolding entry
-single-entry (gate.X q) f p = refl
-single-entry (gate.Y q) f p = refl
-single-entry (gate.Z q) f p = refl
-single-entry (gate.H q) f p = refl
-single-entry (gate.S q) f p = refl
-single-entry (gate.Sd q) f p = refl
-single-entry (gate.T q) f p = refl
-single-entry (gate.Td q) f p = refl
-single-entry (gate.Cx a b) f p = absurd (true≢false p)
-single-entry (gate.Cz a b) f p = absurd (true≢false p)
-single-entry (gate.Sw a b) f p = absurd (true≢false p)
+single-entry g f p = on (shape g) p
+  where
+    on : (x : Shape) → pairedOn x ≡ false → entryOn (matrix g) (rule g) x f ≡ onQubit (matrix g) (firstOn x) f
+    on (One q) p = refl
+    on (Two a b) p = absurd (true≢false p)
 
 pub entry-single : (g : Gate) (v : ℕ) {q r : ℕ} {m : List (List ℕ)} → paired g ≡ false → q ≡ first g → m ≡ numbers (matrix g)
     → r ≡ getD (getD m (bit (bits v (fresh q))) []) (bit (bits v (middle q))) 0 → Stands r (entry g (bits v))
@@ -61,57 +55,36 @@ unfolding onQubit
 entry-single g v p q e t = stands-number (entry g (bits v))
     (t ∙ rw (e, q) (numbers-at (matrix g) _ _ ∙ ap (λ (w : Weight). w .number) (sym (single-entry g (bits v) p))))
 
--- a gate on two qubits: its entries at the sixteen values of its indices are computed
+-- a gate on two qubits
 
-abbrev both : (Bool → Bool) → Bool
-both p = p false && p true
+at-four : {A : Type 0} (f : Bool → Bool → A) (none : A) (x y : Bool)
+    → getD (f false false ∷ f false true ∷ f true false ∷ f true true ∷ []) (2 * bit x + bit y) none ≡ f x y
+at-four f none false false = refl
+at-four f none false true = refl
+at-four f none true false = refl
+at-four f none true true = refl
 
-both-is : (p : Bool → Bool) → both p ≡ true → (b : Bool) → p b ≡ true
-both-is p e false = and-left (p false) (p true) e
-both-is p e true = and-right (p false) (p true) e
-
-abbrev Four : Type 0
-Four = Bool → Bool → Bool → Bool → ℕ
-
-abbrev all : (Bool → Bool → Bool → Bool → Bool) → Bool
-all t = both (λ x. both (λ y. both (λ z. both (t x y z))))
-
-agree : (p q : Four) → all (λ x y z w. eqb (p x y z w) (q x y z w)) ≡ true → (x y z w : Bool) → p x y z w ≡ q x y z w
-agree p q e x y z w =
-    let t : Bool → Bool → Bool → Bool → Bool = λ x y z w. eqb (p x y z w) (q x y z w) in
-    let at-x = both-is (λ x. both (λ y. both (λ z. both (t x y z)))) e x in
-    let at-y = both-is (λ y. both (λ z. both (t x y z))) at-x y in
-    let at-z = both-is (λ z. both (t x y z)) at-y z in
-    eqb-true (p x y z w) (q x y z w) (both-is (t x y z) at-z w)
-
-abbrev at : List (List ℕ) → Four
-at m x y z w = getD (getD m (2 * bit x + bit y) []) (2 * bit z + bit w) 0
+table-at : (r : Rule) (x y z w : Bool) → getD (getD (table r) (2 * bit x + bit y) []) (2 * bit z + bit w) 0 ≡ r x z y w .number
+unfolding table
+table-at r x y z w =
+    ap (λ l. getD l (2 * bit z + bit w) 0) (at-four (tableRow r) [] x y) ∙ at-four (λ z w. r x z y w .number) 0 z w
 
 double-entry : (g : Gate) (f : Bits) → paired g ≡ true
-    → at (double g) (f (fresh (first g))) (f (fresh (second g))) (f (middle (first g))) (f (middle (second g))) ≡ entry g f .number
-unfolding entry xor 0W 1W negateW toWeight
-double-entry (gate.Cx a b) f p =
-    agree (at (double (gate.Cx a b))) (λ x y z w. cond (equal x z && equal y (xor w z)) 1W 0W .number) refl
-    (f (fresh a)) (f (fresh b)) (f (middle a)) (f (middle b))
-double-entry (gate.Cz a b) f p =
-    agree (at (double (gate.Cz a b))) (λ x y z w. cond (equal x z && equal y w) (cond (z && w) (negateW 1W) 1W) 0W .number) refl
-    (f (fresh a)) (f (fresh b)) (f (middle a)) (f (middle b))
-double-entry (gate.Sw a b) f p =
-    agree (at (double (gate.Sw a b))) (λ x y z w. cond (equal x w && equal y z) 1W 0W .number) refl
-    (f (fresh a)) (f (fresh b)) (f (middle a)) (f (middle b))
-double-entry (gate.X q) f p = absurd (false≢true p)
-double-entry (gate.Y q) f p = absurd (false≢true p)
-double-entry (gate.Z q) f p = absurd (false≢true p)
-double-entry (gate.H q) f p = absurd (false≢true p)
-double-entry (gate.S q) f p = absurd (false≢true p)
-double-entry (gate.Sd q) f p = absurd (false≢true p)
-double-entry (gate.T q) f p = absurd (false≢true p)
-double-entry (gate.Td q) f p = absurd (false≢true p)
+    → rule g (f (fresh (first g))) (f (middle (first g))) (f (fresh (second g))) (f (middle (second g))) ≡ entry g f
+unfolding entry
+double-entry g f p = on (shape g) p
+  where
+    on : (x : Shape) → pairedOn x ≡ true
+        → rule g (f (fresh (firstOn x))) (f (middle (firstOn x))) (f (fresh (secondOn x))) (f (middle (secondOn x))) ≡ entryOn (matrix g) (rule g) x f
+    on (One q) p = absurd (false≢true p)
+    on (Two a b) p = refl
 
-pub entry-pair : {g h : Gate} (v : ℕ) {a b r : ℕ} {m : List (List ℕ)} → g ≡ h → paired h ≡ true → m ≡ double h → a ≡ first g → b ≡ second g
+pub entry-pair : {g h : Gate} (v : ℕ) {a b r : ℕ} {m : List (List ℕ)} → g ≡ h → paired h ≡ true → m ≡ table (rule h) → a ≡ first g → b ≡ second g
     → r ≡ getD (getD m (2 * bit (bits v (fresh a)) + bit (bits v (fresh b))) []) (2 * bit (bits v (middle a)) + bit (bits v (middle b))) 0
     → Stands r (entry g (bits v))
-entry-pair {g} {h} v e p q x y t = stands-number (entry g (bits v)) (t ∙ rw (q, x, y, e) (double-entry h (bits v) p))
+entry-pair {g} {h} v e p q x y t =
+    stands-number (entry g (bits v))
+    (t ∙ rw (q, x, y, e) (table-at (rule h) _ _ _ _ ∙ ap (λ (w : Weight). w .number) (double-entry h (bits v) p)))
 
 -- k is the middle or fresh index of one of the gate's qubits
 unfoldable pub uses : Gate → ℕ → Bool
@@ -129,20 +102,16 @@ unused g k n = go (eqb (k % 3) 0) refl
 
 -- an entry depends on the indices that the gate uses, and on no other
 
-agree-entry : (g : Gate) (f h : Bits) → f (middle (first g)) ≡ h (middle (first g)) → f (fresh (first g)) ≡ h (fresh (first g))
+pub agree-entry : (g : Gate) (f h : Bits) → f (middle (first g)) ≡ h (middle (first g)) → f (fresh (first g)) ≡ h (fresh (first g))
     → f (middle (second g)) ≡ h (middle (second g)) → f (fresh (second g)) ≡ h (fresh (second g)) → entry g f ≡ entry g h
-unfolding entry onQubit
-agree-entry (gate.X q) f h p p' r r' = rw (p, p')
-agree-entry (gate.Y q) f h p p' r r' = rw (p, p')
-agree-entry (gate.Z q) f h p p' r r' = rw (p, p')
-agree-entry (gate.H q) f h p p' r r' = rw (p, p')
-agree-entry (gate.S q) f h p p' r r' = rw (p, p')
-agree-entry (gate.Sd q) f h p p' r r' = rw (p, p')
-agree-entry (gate.T q) f h p p' r r' = rw (p, p')
-agree-entry (gate.Td q) f h p p' r r' = rw (p, p')
-agree-entry (gate.Cx a b) f h p p' r r' = rw (p, p', r, r')
-agree-entry (gate.Cz a b) f h p p' r r' = rw (p, p', r, r')
-agree-entry (gate.Sw a b) f h p p' r r' = rw (p, p', r, r')
+unfolding entry
+agree-entry g f h p p' r r' = on (shape g) p p' r r'
+  where
+    on : (x : Shape) → f (middle (firstOn x)) ≡ h (middle (firstOn x)) → f (fresh (firstOn x)) ≡ h (fresh (firstOn x))
+        → f (middle (secondOn x)) ≡ h (middle (secondOn x)) → f (fresh (secondOn x)) ≡ h (fresh (secondOn x))
+        → entryOn (matrix g) (rule g) x f ≡ entryOn (matrix g) (rule g) x h
+    on (One q) p p' r r' = unfold onQubit in rw (p, p')
+    on (Two a b) p p' r r' = rw (p, p', r, r')
 
 pub unused-entry : (g : Gate) (k : ℕ) (b : Bool) (f : Bits) → uses g k ≡ false → entry g (set k b f) ≡ entry g f
 unfolding uses

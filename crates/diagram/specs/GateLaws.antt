@@ -8,9 +8,11 @@ use lib.ListN.{getD}
 use Rattle.field.specs.Weight.{Weight, toWeight, 0W, 1W, plusW, timesW, negateW, imaginaryUnit, inverseRootTwo}
 use Rattle.diagram.specs.Tensor.{Bits, input, middle, fresh, bits, at, value}
 use Rattle.diagram.specs.Tabulate.{Sees, at-tabulate, tabulate-value}
-use Rattle.diagram.specs.Gates.{Matrix, rows, numbers, matrix, onQubit, entry, gateTensor, equal, straight, unitEntry, unitTensor}
+use Rattle.diagram.specs.Gates.{Matrix, rows, numbers, matrix, onQubit, shape, rule, entryOn, entry, gateTensor, equal, straight, unitEntry, unitTensor}
 use Rattle.diagram.specs.declared.gate.Gate.{Gate}
 use Rattle.diagram.specs.declared.gate.Gate.the-variants as gate
+use Rattle.diagram.specs.declared.gate.Shape.{Shape}
+use Rattle.diagram.specs.declared.gate.Shape.the-variants.{One, Two}
 
 -- at each assignment to d indices
 
@@ -23,40 +25,21 @@ unfolding unitTensor
 unit-value d n v p = tabulate-value d (unitEntry n) v p
 
 -- the indices of the gate's qubits are below d
-abbrev pub Fits : ℕ → Gate → Type 0
-Fits d (gate.X q) = fresh q < d
-Fits d (gate.Y q) = fresh q < d
-Fits d (gate.Z q) = fresh q < d
-Fits d (gate.H q) = fresh q < d
-Fits d (gate.S q) = fresh q < d
-Fits d (gate.Sd q) = fresh q < d
-Fits d (gate.T q) = fresh q < d
-Fits d (gate.Td q) = fresh q < d
-Fits d (gate.Cx a b) = (fresh a < d) × (fresh b < d)
-Fits d (gate.Cz a b) = (fresh a < d) × (fresh b < d)
-Fits d (gate.Sw a b) = (fresh a < d) × (fresh b < d)
+abbrev pub FitsOn : ℕ → Shape → Type 0
+FitsOn d (One q) = fresh q < d
+FitsOn d (Two a b) = (fresh a < d) × (fresh b < d)
 
-qubit-sees : (d q : ℕ) (m : Matrix) → fresh q < d → Sees d (onQubit m q)
-unfolding onQubit
-qubit-sees d q m p g h e = rw (e (fresh q) p, e (middle q) (omega arith))
+abbrev pub Fits : ℕ → Gate → Type 0
+Fits d g = FitsOn d (shape g)
 
 -- a gate's entries depend on its qubits' indices alone
 pub gate-sees : (d : ℕ) (g : Gate) → Fits d g → Sees d (entry g)
 unfolding entry
-gate-sees d (gate.X q) p = qubit-sees d q _ p
-gate-sees d (gate.Y q) p = qubit-sees d q _ p
-gate-sees d (gate.Z q) p = qubit-sees d q _ p
-gate-sees d (gate.H q) p = qubit-sees d q _ p
-gate-sees d (gate.S q) p = qubit-sees d q _ p
-gate-sees d (gate.Sd q) p = qubit-sees d q _ p
-gate-sees d (gate.T q) p = qubit-sees d q _ p
-gate-sees d (gate.Td q) p = qubit-sees d q _ p
-gate-sees d (gate.Cx a b) p =
-    λ g h e. rw (e (fresh a) (p .0), e (middle a) (omega arith), e (fresh b) (p .1), e (middle b) (omega arith))
-gate-sees d (gate.Cz a b) p =
-    λ g h e. rw (e (fresh a) (p .0), e (middle a) (omega arith), e (fresh b) (p .1), e (middle b) (omega arith))
-gate-sees d (gate.Sw a b) p =
-    λ g h e. rw (e (fresh a) (p .0), e (middle a) (omega arith), e (fresh b) (p .1), e (middle b) (omega arith))
+gate-sees d g p = on (shape g) p
+  where
+    on : (x : Shape) → FitsOn d x → Sees d (entryOn (matrix g) (rule g) x)
+    on (One q) p f h e = unfold onQubit in rw (e (fresh q) p, e (middle q) (omega arith))
+    on (Two a b) p f h e = rw (e (fresh a) (p .0), e (middle a) (omega arith), e (fresh b) (p .1), e (middle b) (omega arith))
 
 straight-sees : (d n : ℕ) → 3 * n ≤ d → (g h : Bits) → ((k : ℕ) → k < d → g k ≡ h k) → straight n g ≡ straight n h
 unfolding straight

@@ -8,6 +8,22 @@ use Rattle.diagram.specs.Tensor.{Tensor, Bits, input, middle, fresh}
 use Rattle.diagram.specs.Tabulate.{tabulate}
 use Rattle.diagram.specs.declared.gate.Gate.{Gate}
 use Rattle.diagram.specs.declared.gate.Gate.the-variants as gate
+use Rattle.diagram.specs.declared.gate.Shape.{Shape}
+use Rattle.diagram.specs.declared.gate.Shape.the-variants.{One, Two}
+
+-- a gate's qubit, or its two: "CX a b"
+abbrev pub shape : Gate → Shape
+shape (gate.X q) = One q
+shape (gate.Y q) = One q
+shape (gate.Z q) = One q
+shape (gate.H q) = One q
+shape (gate.S q) = One q
+shape (gate.Sd q) = One q
+shape (gate.T q) = One q
+shape (gate.Td q) = One q
+shape (gate.Cx a b) = Two a b
+shape (gate.Cz a b) = Two a b
+shape (gate.Sw a b) = Two a b
 
 -- "Each gate is 2 by 2 numbers, rows output (fresh), columns input (middle)": two rows of two weights
 abbrev pub Matrix : Type 0
@@ -47,24 +63,33 @@ onQubit m q f = getD (getD m (bit (f (fresh q))) []) (bit (f (middle q))) 0W
 abbrev pub equal : Bool → Bool → Bool
 equal a b = Bool·beq a b
 
+-- an entry of a gate on two qubits a and b, by the values of an assignment for a's fresh and middle and for b's
+abbrev pub Rule : Type 0
+Rule = Bool → Bool → Bool → Bool → Weight
+
 -- "CX a b: 1 where a's fresh equals its middle and b's fresh is b's middle plus a's middle modulo 2.
 --  CZ a b: fresh equals middle on both, times -1 where both are 1. SW exchanges them. Other entries are 0."
+-- A gate on one qubit is given by its numbers above, and 0 stands here.
+abbrev pub rule : Gate → Rule
+rule (gate.Cx a b) fa ma fb mb = cond (equal fa ma && equal fb (xor mb ma)) 1W 0W
+rule (gate.Cz a b) fa ma fb mb = cond (equal fa ma && equal fb mb) (cond (ma && mb) (negateW 1W) 1W) 0W
+rule (gate.Sw a b) fa ma fb mb = cond (equal fa mb && equal fb ma) 1W 0W
+rule (gate.X q) fa ma fb mb = 0W
+rule (gate.Y q) fa ma fb mb = 0W
+rule (gate.Z q) fa ma fb mb = 0W
+rule (gate.H q) fa ma fb mb = 0W
+rule (gate.S q) fa ma fb mb = 0W
+rule (gate.Sd q) fa ma fb mb = 0W
+rule (gate.T q) fa ma fb mb = 0W
+rule (gate.Td q) fa ma fb mb = 0W
+
+-- the entry at an assignment: by the numbers on one qubit, by the rule on two
+abbrev pub entryOn : Matrix → Rule → Shape → Bits → Weight
+entryOn m r (One q) f = onQubit m q f
+entryOn m r (Two a b) f = r (f (fresh a)) (f (middle a)) (f (fresh b)) (f (middle b))
+
 unfoldable pub entry : Gate → Bits → Weight
-entry (gate.X q) f = onQubit (matrix (gate.X q)) q f
-entry (gate.Y q) f = onQubit (matrix (gate.Y q)) q f
-entry (gate.Z q) f = onQubit (matrix (gate.Z q)) q f
-entry (gate.H q) f = onQubit (matrix (gate.H q)) q f
-entry (gate.S q) f = onQubit (matrix (gate.S q)) q f
-entry (gate.Sd q) f = onQubit (matrix (gate.Sd q)) q f
-entry (gate.T q) f = onQubit (matrix (gate.T q)) q f
-entry (gate.Td q) f = onQubit (matrix (gate.Td q)) q f
-entry (gate.Cx a b) f =
-    cond (equal (f (fresh a)) (f (middle a)) && equal (f (fresh b)) (xor (f (middle b)) (f (middle a)))) 1W 0W
-entry (gate.Cz a b) f =
-    cond (equal (f (fresh a)) (f (middle a)) && equal (f (fresh b)) (f (middle b)))
-    (cond (f (middle a) && f (middle b)) (negateW 1W) 1W) 0W
-entry (gate.Sw a b) f =
-    cond (equal (f (fresh a)) (f (middle b)) && equal (f (fresh b)) (f (middle a))) 1W 0W
+entry g f = entryOn (matrix g) (rule g) (shape g) f
 
 unfoldable pub gateTensor : (d : ℕ) → Gate → Tensor d
 gateTensor d g = tabulate d (entry g)

@@ -1,53 +1,41 @@
 -- The gates' qubits and matrices, as the code has them.
 use mathlib.Core.Path.{_≡_, refl, ap, sym, _∙_}
-use mathlib.Core.Bool.{Bool, true, false}
+use mathlib.Core.Bool.{Bool, true, false, xor}
 use mathlib.Core.List.{List, [], _∷_}
 use Prim.Native.Nat.{ℕ}
 use Rattle.field.specs.Weight.{toWeight, 0W, 1W, negateW, imaginaryUnit, inverseRootTwo}
-use Rattle.diagram.specs.Gates.{numbers, matrix}
+use Rattle.diagram.specs.Gates.{numbers, matrix, shape, Rule, rule}
 use Rattle.diagram.specs.declared.gate.Gate.{Gate}
 use Rattle.diagram.specs.declared.gate.Gate.the-variants as gate
+use Rattle.diagram.specs.declared.gate.Shape.{Shape}
+use Rattle.diagram.specs.declared.gate.Shape.the-variants.{One, Two}
 
 -- the gate's qubit, or its first; and its qubit again, or its second
+abbrev pub firstOn : Shape → ℕ
+firstOn (One q) = q
+firstOn (Two a b) = a
+
+abbrev pub secondOn : Shape → ℕ
+secondOn (One q) = q
+secondOn (Two a b) = b
+
 abbrev pub first : Gate → ℕ
-first (gate.X q) = q
-first (gate.Y q) = q
-first (gate.Z q) = q
-first (gate.H q) = q
-first (gate.S q) = q
-first (gate.Sd q) = q
-first (gate.T q) = q
-first (gate.Td q) = q
-first (gate.Cx a b) = a
-first (gate.Cz a b) = a
-first (gate.Sw a b) = a
+first g = firstOn (shape g)
 
 abbrev pub second : Gate → ℕ
-second (gate.X q) = q
-second (gate.Y q) = q
-second (gate.Z q) = q
-second (gate.H q) = q
-second (gate.S q) = q
-second (gate.Sd q) = q
-second (gate.T q) = q
-second (gate.Td q) = q
-second (gate.Cx a b) = b
-second (gate.Cz a b) = b
-second (gate.Sw a b) = b
+second g = secondOn (shape g)
+
+-- the shape of a gate that is h
+pub as-shape : {g h : Gate} {x : Shape} → g ≡ h → x ≡ shape h → x ≡ shape g
+as-shape p e = e ∙ ap shape (sym p)
 
 -- is it a gate on two qubits?
+abbrev pub pairedOn : Shape → Bool
+pairedOn (One q) = false
+pairedOn (Two a b) = true
+
 abbrev pub paired : Gate → Bool
-paired (gate.X q) = false
-paired (gate.Y q) = false
-paired (gate.Z q) = false
-paired (gate.H q) = false
-paired (gate.S q) = false
-paired (gate.Sd q) = false
-paired (gate.T q) = false
-paired (gate.Td q) = false
-paired (gate.Cx a b) = true
-paired (gate.Cz a b) = true
-paired (gate.Sw a b) = true
+paired g = pairedOn (shape g)
 
 abbrev two : ℕ → ℕ → ℕ → ℕ → List (List ℕ)
 two a b c d = (a ∷ b ∷ []) ∷ (c ∷ d ∷ []) ∷ []
@@ -83,19 +71,23 @@ single-is (gate.Sw a b) = refl
 pub as-matrix : {g h : Gate} {m : List (List ℕ)} → g ≡ h → m ≡ single h → m ≡ numbers (matrix g)
 as-matrix {g} {h} p e = e ∙ single-is h ∙ ap (λ x. numbers (matrix x)) (sym p)
 
--- the gates on two qubits: rows are the values of the fresh indices, columns those of the middles, the first qubit's counting double
-abbrev zeros : List (List ℕ)
-zeros = let row : List ℕ = 0 ∷ 0 ∷ 0 ∷ 0 ∷ [] in row ∷ row ∷ row ∷ row ∷ []
+-- the entries of a rule: rows are the values of the fresh indices, columns those of the middles, the first qubit's counting double
+abbrev pub tableRow : Rule → Bool → Bool → List ℕ
+tableRow r x y =
+    r x false y false .number ∷ r x false y true .number ∷ r x true y false .number ∷ r x true y true .number ∷ []
 
-abbrev pub double : Gate → List (List ℕ)
-double (gate.Cx a b) = (1 ∷ 0 ∷ 0 ∷ 0 ∷ []) ∷ (0 ∷ 1 ∷ 0 ∷ 0 ∷ []) ∷ (0 ∷ 0 ∷ 0 ∷ 1 ∷ []) ∷ (0 ∷ 0 ∷ 1 ∷ 0 ∷ []) ∷ []
-double (gate.Cz a b) = (1 ∷ 0 ∷ 0 ∷ 0 ∷ []) ∷ (0 ∷ 1 ∷ 0 ∷ 0 ∷ []) ∷ (0 ∷ 0 ∷ 1 ∷ 0 ∷ []) ∷ (0 ∷ 0 ∷ 0 ∷ 65536 ∷ []) ∷ []
-double (gate.Sw a b) = (1 ∷ 0 ∷ 0 ∷ 0 ∷ []) ∷ (0 ∷ 0 ∷ 1 ∷ 0 ∷ []) ∷ (0 ∷ 1 ∷ 0 ∷ 0 ∷ []) ∷ (0 ∷ 0 ∷ 0 ∷ 1 ∷ []) ∷ []
-double (gate.X q) = zeros
-double (gate.Y q) = zeros
-double (gate.Z q) = zeros
-double (gate.H q) = zeros
-double (gate.S q) = zeros
-double (gate.Sd q) = zeros
-double (gate.T q) = zeros
-double (gate.Td q) = zeros
+unfoldable pub table : Rule → List (List ℕ)
+table r = tableRow r false false ∷ tableRow r false true ∷ tableRow r true false ∷ tableRow r true true ∷ []
+
+module _ (a b : ℕ) where
+  pub cx-table : (1 ∷ 0 ∷ 0 ∷ 0 ∷ []) ∷ (0 ∷ 1 ∷ 0 ∷ 0 ∷ []) ∷ (0 ∷ 0 ∷ 0 ∷ 1 ∷ []) ∷ (0 ∷ 0 ∷ 1 ∷ 0 ∷ []) ∷ [] ≡ table (rule (gate.Cx a b))
+  unfolding table xor toWeight 0W 1W
+  cx-table = refl
+
+  pub cz-table : (1 ∷ 0 ∷ 0 ∷ 0 ∷ []) ∷ (0 ∷ 1 ∷ 0 ∷ 0 ∷ []) ∷ (0 ∷ 0 ∷ 1 ∷ 0 ∷ []) ∷ (0 ∷ 0 ∷ 0 ∷ 65536 ∷ []) ∷ [] ≡ table (rule (gate.Cz a b))
+  unfolding table toWeight 0W 1W negateW
+  cz-table = refl
+
+  pub sw-table : (1 ∷ 0 ∷ 0 ∷ 0 ∷ []) ∷ (0 ∷ 0 ∷ 1 ∷ 0 ∷ []) ∷ (0 ∷ 1 ∷ 0 ∷ 0 ∷ []) ∷ (0 ∷ 0 ∷ 0 ∷ 1 ∷ []) ∷ [] ≡ table (rule (gate.Sw a b))
+  unfolding table toWeight 0W 1W
+  sw-table = refl

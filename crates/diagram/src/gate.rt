@@ -1,6 +1,6 @@
 // The gates (document 01, "Gates").
 ghost use mathlib.Core.Path.{_≡_};
-ghost use Rattle.diagram.specs.Gates.{numbers, matrix as matrixOf};
+ghost use Rattle.diagram.specs.Gates.{numbers, matrix as matrixOf, shape as shapeOf};
 ghost use Rattle.diagram.specs.Matrices.{first as firstOf, second as secondOf};
 
 // A gate on its qubit, or on its two: for CX the control first.
@@ -37,9 +37,14 @@ pub(crate) fn matrix(g: Gate) -> [[u64; 2]; 2]
     }
 }
 
-// The gate's qubit, or its first.
-pub fn first(g: Gate) -> usize
-    ensures { λ r. ⌜ r ≡ firstOf g ⌝ }
+// A gate's qubit, or its two.
+pub enum Shape {
+    One(usize),
+    Two(usize, usize),
+}
+
+pub fn shape_of(g: Gate) -> Shape
+    ensures { λ r. ⌜ r ≡ shapeOf g ⌝ }
 {
     match g {
         Gate::X(q)
@@ -49,28 +54,27 @@ pub fn first(g: Gate) -> usize
         | Gate::S(q)
         | Gate::Sd(q)
         | Gate::T(q)
-        | Gate::Td(q)
-        | Gate::Cx(q, _)
-        | Gate::Cz(q, _)
-        | Gate::Sw(q, _) => q,
+        | Gate::Td(q) => Shape::One(q),
+        Gate::Cx(a, b) | Gate::Cz(a, b) | Gate::Sw(a, b) => Shape::Two(a, b),
+    }
+}
+
+// The gate's qubit, or its first.
+pub(crate) fn first(g: Gate) -> usize
+    ensures { λ r. ⌜ r ≡ firstOf g ⌝ }
+{
+    match shape_of(g) {
+        Shape::One(q) => q,
+        Shape::Two(a, _) => a,
     }
 }
 
 // The gate's qubit again, or its second.
-pub fn second(g: Gate) -> usize
+pub(crate) fn second(g: Gate) -> usize
     ensures { λ r. ⌜ r ≡ secondOf g ⌝ }
 {
-    match g {
-        Gate::X(q)
-        | Gate::Y(q)
-        | Gate::Z(q)
-        | Gate::H(q)
-        | Gate::S(q)
-        | Gate::Sd(q)
-        | Gate::T(q)
-        | Gate::Td(q)
-        | Gate::Cx(_, q)
-        | Gate::Cz(_, q)
-        | Gate::Sw(_, q) => q,
+    match shape_of(g) {
+        Shape::One(q) => q,
+        Shape::Two(_, b) => b,
     }
 }

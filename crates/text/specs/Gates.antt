@@ -2,11 +2,14 @@
 use mathlib.Core.Bool.{cond}
 use mathlib.Core.Logic.{_≢_}
 use Prim.Native.Nat.{ℕ, _<_}
+use Rattle.diagram.specs.Gates.{shape}
 use Rattle.text.specs.Text.{Bytes, bytes, sameBytes}
 use Rattle.text.specs.declared.names.Named.{Named}
 use Rattle.text.specs.declared.names.Named.the-variants as named
 use Rattle.diagram.specs.declared.gate.Gate.{Gate}
 use Rattle.diagram.specs.declared.gate.Gate.the-variants.{X, Y, Z, H, S, Sd, T, Td, Cx, Cz, Sw}
+use Rattle.diagram.specs.declared.gate.Shape.{Shape}
+use Rattle.diagram.specs.declared.gate.Shape.the-variants.{One, Two}
 
 -- this gate, where s is its name; else the other
 unfoldable pub choose : Bytes → Bytes → Gate → Named → Named
@@ -39,15 +42,9 @@ known wrong named.Unknown next = wrong
 known wrong (named.Gate g) next = next g
 
 -- a gate on qubits below n, which differ where they are two
+abbrev pub PlacedOn : ℕ → Shape → Type 0
+PlacedOn n (One q) = q < n
+PlacedOn n (Two p q) = (p < n) × ((q < n) × (p ≢ q))
+
 abbrev pub Placed : ℕ → Gate → Type 0
-Placed n (X q) = q < n
-Placed n (Y q) = q < n
-Placed n (Z q) = q < n
-Placed n (H q) = q < n
-Placed n (S q) = q < n
-Placed n (Sd q) = q < n
-Placed n (T q) = q < n
-Placed n (Td q) = q < n
-Placed n (Cx p q) = (p < n) × ((q < n) × (p ≢ q))
-Placed n (Cz p q) = (p < n) × ((q < n) × (p ≢ q))
-Placed n (Sw p q) = (p < n) × ((q < n) × (p ≢ q))
+Placed n g = PlacedOn n (shape g)

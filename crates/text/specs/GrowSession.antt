@@ -11,19 +11,20 @@ use lib.Dec.{leb, ltb}
 use lib.ListN.{length, getD, set}
 use borrow.Author.Tests.{leb-true, ltb-true}
 use Rattle.diagram.specs.Weights.{Weight, toWeight}
-use Rattle.diagram.specs.Tensor.{Tensor, bits, constant, depends, fresh}
+use Rattle.diagram.specs.Tensor.{Tensor, bits, constant, depends}
 use Rattle.diagram.specs.Tally.{Step, sum, cont, low, build, collect, filled, return}
-use Rattle.diagram.specs.Gates.{gateTensor, unitTensor}
+use Rattle.diagram.specs.Gates.{shape, gateTensor, unitTensor}
 use Rattle.diagram.specs.Grow.{deeper, grow, grow-constant, grow-depends, grow-value, gate-grow, unit-grow}
 use Rattle.diagram.specs.GrowSteps.{growAll, length-grow, Grows, Below, sum-grow, cont-grow, build-grow, low-grow, grows-answer, collect-grow}
-use Rattle.diagram.specs.GateLaws.{Fits}
+use Rattle.diagram.specs.GateLaws.{FitsOn, Fits}
 use Rattle.diagram.specs.Compare.{grow-compared}
 use Rattle.diagram.specs.TestLaws.{and-left, and-right}
 use Rattle.diagram.specs.declared.gate.Gate.{Gate}
-use Rattle.diagram.specs.declared.gate.Gate.the-variants as gate
+use Rattle.diagram.specs.declared.gate.Shape.{Shape}
+use Rattle.diagram.specs.declared.gate.Shape.the-variants.{One, Two}
 use Rattle.text.specs.Text.{lines}
 use Rattle.text.specs.Calls.{readLine}
-use Rattle.text.specs.VerdictRun.{qubits, Numbered, sessionCalls, Outcome, refused, ended, onward, perform, rulingOf, judged, verdictOf, verdict, outcome}
+use Rattle.text.specs.VerdictRun.{qubitsOn, qubits, Numbered, sessionCalls, Outcome, refused, ended, onward, perform, rulingOf, judged, verdictOf, verdict, outcome}
 use Rattle.text.specs.Verdict.{Reading, lists, fault, readText}
 use Rattle.text.specs.Session.{comparison, Capacity, fits, Tally, Reply, count, start, answer, accept, refuse, settle, holding, register, Run, begun, more, stopped, run, session}
 use Rattle.text.specs.declared.answer.Answer.the-variants as answers
@@ -72,29 +73,16 @@ mask-below (suc d) x p (suc j) q = mask-below d (x / 2) (let e = pow-suc 2 d in 
 
 -- a gate whose qubits are below fits
 
-one-fits : (d q : ℕ) → qubitsBelow d (q ∷ []) ≡ true → fresh q < d
-unfolding qubitsBelow
-one-fits d q e = let p = leb-true (3 * q + 3) d (and-left _ _ e) in omega arith
-
-two-fits : (d a b : ℕ) → qubitsBelow d (min a b ∷ max a b ∷ []) ≡ true → (fresh a < d) × (fresh b < d)
-unfolding qubitsBelow
-two-fits d a b e =
-    let p = leb-true (3 * min a b + 3) d (and-left _ _ e) in
-    let q = leb-true (3 * max a b + 3) d (and-left _ _ (and-right (leb (3 * min a b + 3) d) _ e)) in
-    (omega arith, omega arith)
-
 gate-fits : (d : ℕ) (g : Gate) → qubitsBelow d (qubits g) ≡ true → Fits d g
-gate-fits d (gate.X q) e = one-fits d q e
-gate-fits d (gate.Y q) e = one-fits d q e
-gate-fits d (gate.Z q) e = one-fits d q e
-gate-fits d (gate.H q) e = one-fits d q e
-gate-fits d (gate.S q) e = one-fits d q e
-gate-fits d (gate.Sd q) e = one-fits d q e
-gate-fits d (gate.T q) e = one-fits d q e
-gate-fits d (gate.Td q) e = one-fits d q e
-gate-fits d (gate.Cx a b) e = two-fits d a b e
-gate-fits d (gate.Cz a b) e = two-fits d a b e
-gate-fits d (gate.Sw a b) e = two-fits d a b e
+unfolding qubitsBelow
+gate-fits d g e = on (shape g) e
+  where
+    on : (x : Shape) → qubitsBelow d (qubitsOn x) ≡ true → FitsOn d x
+    on (One q) e = let p = leb-true (3 * q + 3) d (and-left _ _ e) in omega arith
+    on (Two a b) e =
+        let p = leb-true (3 * min a b + 3) d (and-left _ _ e) in
+        let q = leb-true (3 * max a b + 3) d (and-left _ _ (and-right (leb (3 * min a b + 3) d) _ e)) in
+        (omega arith, omega arith)
 
 module _ {d : ℕ} (m : ℕ) where
   pub growRegister : Option (Tensor d) → Option (Tensor (deeper d m))

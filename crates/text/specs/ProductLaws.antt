@@ -16,15 +16,18 @@ use Rattle.diagram.specs.TensorLaws.{at-scale, eq-value}
 use Rattle.diagram.specs.RingLaws.{at-times}
 use Rattle.diagram.specs.OverLaws.{settings, sumOver, at-sumOver}
 use Rattle.diagram.specs.LowLaws.{lowered, at-lowered}
-use Rattle.diagram.specs.Tabulate.{Sees, at-tabulate, bits-none}
-use Rattle.diagram.specs.Gates.{Matrix, onQubit, entry, gateTensor, straight, unitEntry, unitTensor}
-use Rattle.diagram.specs.GateLaws.{unit-at}
+use Rattle.diagram.specs.Tabulate.{Sees, bits-none}
+use Rattle.diagram.specs.Gates.{shape, entry, gateTensor, straight, unitEntry, unitTensor}
+use Rattle.diagram.specs.GateLaws.{gate-at, unit-at}
+use Rattle.diagram.specs.Matrices.{firstOn, secondOn}
+use Rattle.diagram.specs.Entry.{agree-entry}
 use Rattle.diagram.specs.declared.gate.Gate.{Gate}
-use Rattle.diagram.specs.declared.gate.Gate.the-variants as gate
+use Rattle.diagram.specs.declared.gate.Shape.{Shape}
+use Rattle.diagram.specs.declared.gate.Shape.the-variants.{One, Two}
 use Rattle.text.specs.Gates.{Placed}
-use Rattle.text.specs.VerdictRun.{qubits, middles, listTensor}
+use Rattle.text.specs.VerdictRun.{qubitsOn, qubits, middles, listTensor}
 use Rattle.text.specs.VerdictRunLaws.{bit-added, bit-other, Rising, AllFit, renamed, contracted, applied, appliedAll, list-tensor}
-use Rattle.text.specs.GateShape.{gate-rising}
+use Rattle.text.specs.GateShape.{placed-fits, gate-rising}
 use Rattle.text.specs.VerdictLists.{AllPlaced, placed-fit}
 use Rattle.text.specs.Product.{BasisState, Operator, on, others, wires, gateMatrix, identity, product, listMatrix, outputs, inputs}
 use Rattle.text.specs.StateSums.{cond-times, product-assoc, settings-beyond, others-sees, equal-swap, states-same, sum-collapse, identity-left, identity-right}
@@ -56,28 +59,12 @@ rising-below n least (q ∷ qs) r = (omega arith, rising-below n (suc q) qs (r .
 abbrev Alike : Bits → Bits → ℕ → Type 0
 Alike x y q = (x (fresh q) ≡ y (fresh q)) × (x (middle q) ≡ y (middle q))
 
-qubit-alike : (m : Matrix) (q : ℕ) (x y : Bits) → Alike x y q → onQubit m q x ≡ onQubit m q y
-unfolding onQubit
-qubit-alike m q x y e = rw (e .0, e .1)
-
 entry-alike : (g : Gate) (x y : Bits) → Each (Alike x y) (qubits g) → entry g x ≡ entry g y
-unfolding entry
-entry-alike (gate.X q) x y e = qubit-alike _ q x y (e .0)
-entry-alike (gate.Y q) x y e = qubit-alike _ q x y (e .0)
-entry-alike (gate.Z q) x y e = qubit-alike _ q x y (e .0)
-entry-alike (gate.H q) x y e = qubit-alike _ q x y (e .0)
-entry-alike (gate.S q) x y e = qubit-alike _ q x y (e .0)
-entry-alike (gate.Sd q) x y e = qubit-alike _ q x y (e .0)
-entry-alike (gate.T q) x y e = qubit-alike _ q x y (e .0)
-entry-alike (gate.Td q) x y e = qubit-alike _ q x y (e .0)
-entry-alike (gate.Cx a b) x y e = let h = min-max (Alike x y) a b (e .0) (e .1 .0) in rw (h .0 .0, h .0 .1, h .1 .0, h .1 .1)
-entry-alike (gate.Cz a b) x y e = let h = min-max (Alike x y) a b (e .0) (e .1 .0) in rw (h .0 .0, h .0 .1, h .1 .0, h .1 .1)
-entry-alike (gate.Sw a b) x y e = let h = min-max (Alike x y) a b (e .0) (e .1 .0) in rw (h .0 .0, h .0 .1, h .1 .0, h .1 .1)
-
-gate-at : (d n : ℕ) (g : Gate) → Placed n g → 3 * n ≤ d → (f : Bits) → at (gateTensor d g) f ≡ entry g f
-unfolding gateTensor
-gate-at d n g p l f =
-    at-tabulate d (entry g) (λ x y e. entry-alike g x y (each-map (qubits g) (λ q b. (e (fresh q) (omega arith), e (middle q) (omega arith))) (rising-below n 0 (qubits g) (gate-rising (3 * n) n g (omega arith) p)))) f
+entry-alike g x y e = let h = both (shape g) e in agree-entry g x y (h .0 .1) (h .0 .0) (h .1 .1) (h .1 .0)
+  where
+    both : (s : Shape) → Each (Alike x y) (qubitsOn s) → Alike x y (firstOn s) × Alike x y (secondOn s)
+    both (One q) e = (e .0, e .0)
+    both (Two a b) e = min-max (Alike x y) a b (e .0) (e .1 .0)
 
 -- a gate's input and output at their indices
 
@@ -215,7 +202,7 @@ gate-applied {d} n g T f p l =
     let S = bits (middles (qubits g)) in
     at-renamed n (qubits g) (sumOver S (times (gateTensor d g) T)) f l (rising-below n 0 (qubits g) (gate-rising (3 * n) n g (omega arith) p))
     ∙ at-sumOver S (times (gateTensor d g) T) (raised (qubits g) f)
-    ∙ ap (λ h. settings d S h (raised (qubits g) f)) (fun-ext (λ x. at-times (gateTensor d g) T x ∙ ap (λ w. timesW w (at T x)) (gate-at d n g p l x)))
+    ∙ ap (λ h. settings d S h (raised (qubits g) f)) (fun-ext (λ x. at-times (gateTensor d g) T x ∙ ap (λ w. timesW w (at T x)) (gate-at d g (placed-fits d n g l p) x)))
     ∙ settings-beyond (3 * n) d S _ (raised (qubits g) f) l (gate-beyond n g p)
 
 -- What the gate's matrix does on the left of a matrix: the entries are added over the gate's qubits.

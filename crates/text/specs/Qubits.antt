@@ -1,16 +1,16 @@
 -- A gate's qubits as the code has them.
 use mathlib.Core.Path.{_≡_, ap, sym, subst, _∙_}
-use mathlib.Core.Logic.{_≢_}
 use mathlib.Core.List.{List, [], _∷_}
 use Prim.Native.Nat.{ℕ, _+_, _*_, _^_, _%_, _≤_, _<_, min, max}
 use native.Mathlib.Omega.{arith}
 use lib.Pow.{pow-lt}
-use Rattle.diagram.specs.Matrices.{first, second}
+use Rattle.diagram.specs.Gates.{shape}
 use Rattle.diagram.specs.Mask.{one-shl}
-use Rattle.text.specs.GateShape.{OnTwo, one, two, shape}
 use Rattle.diagram.specs.declared.gate.Gate.{Gate}
-use Rattle.text.specs.Gates.{Placed}
-use Rattle.text.specs.VerdictRun.{qubits, middles}
+use Rattle.diagram.specs.declared.gate.Shape.{Shape}
+use Rattle.diagram.specs.declared.gate.Shape.the-variants as shapes
+use Rattle.text.specs.Gates.{PlacedOn, Placed}
+use Rattle.text.specs.VerdictRun.{qubitsOn, qubits, middles}
 use Rattle.text.specs.declared.qubits.Qubits.{Qubits}
 use Rattle.text.specs.declared.qubits.Qubits.the-variants.{One, Two}
 
@@ -26,27 +26,25 @@ pub record QubitsOf (g : Gate) (r : Qubits) : Type 0 where
   pub is : listed r ≡ qubits g
   pub below : Below r
 
-ordered : (g : Gate) (x y : ℕ) → OnTwo 8 g → x ≡ min (first g) (second g) → y ≡ max (first g) (second g) → QubitsOf g (Two x y)
-ordered g x y t u v = record {
-  is = rw (u, v) (sym (t .are));
-  below = (omega (arith, t .below, t .other), omega (arith, t .below, t .other));
-}
+module _ (g : Gate) {x : Shape} (h : Placed 8 g) (e : x ≡ shape g) where
+  placed : {y : Shape} → x ≡ y → PlacedOn 8 y
+  placed f = subst (PlacedOn 8) (sym e ∙ f) h
 
-module _ {g : Gate} {p q : ℕ} (h : Placed 8 g) (e : p ≡ first g) (f : q ≡ second g) where
-  pub qubits-one : p ≡ q → QubitsOf g (One p)
-  qubits-one m = elim (shape 8 g h) [
-    | one o ↦ record { is = ap (λ x. x ∷ []) e ∙ sym (o .are); below = omega (arith, e, o .below) }
-    | two t ↦ absurd (t .differ (sym e ∙ m ∙ f))
-  ]
+  listed-as : {y : Shape} → x ≡ y → qubitsOn y ≡ qubits g
+  listed-as f = ap qubitsOn (sym f ∙ e)
 
-  two-of : p ≢ q → OnTwo 8 g
-  two-of n = elim (shape 8 g h) [ one o ↦ absurd (n (e ∙ sym (o .again) ∙ sym f)) | two t ↦ t ]
+  pub qubits-one : {q : ℕ} → x ≡ shapes.One q → QubitsOf g (One q)
+  qubits-one f = record { is = listed-as f; below = placed f }
 
-  pub qubits-below : p ≢ q → q < p → QubitsOf g (Two q p)
-  qubits-below n l = ordered g q p (two-of n) (omega (arith, e, f)) (omega (arith, e, f))
+  module _ {p q : ℕ} (f : x ≡ shapes.Two p q) where
+    ordered : {a b : ℕ} → a ≡ min p q → b ≡ max p q → QubitsOf g (Two a b)
+    ordered u v = let k = placed f in record { is = rw (u, v) (listed-as f); below = (omega arith, omega arith) }
 
-  pub qubits-above : p ≢ q → p ≤ q → QubitsOf g (Two p q)
-  qubits-above n l = ordered g p q (two-of n) (omega (arith, e, f)) (omega (arith, e, f))
+    pub qubits-below : q < p → QubitsOf g (Two q p)
+    qubits-below l = ordered (omega arith) (omega arith)
+
+    pub qubits-above : p ≤ q → QubitsOf g (Two p q)
+    qubits-above l = ordered (omega arith) (omega arith)
 
 -- 2 to the middle index
 

@@ -186,20 +186,6 @@ fields-ranged (w ∷ fs) = go (sameBytes w (bytes "gate"))
     go true = gate-fields-ranged fs
     go false = call-ranged (wordOf w) (numbers 8 None fs)
 
--- more qubits only widen the range
-pub placed-more : {n m : ℕ} (g : Gate') → n ≤ m → Placed n g → Placed m g
-placed-more (gate.X q) h p = omega arith
-placed-more (gate.Y q) h p = omega arith
-placed-more (gate.Z q) h p = omega arith
-placed-more (gate.H q) h p = omega arith
-placed-more (gate.S q) h p = omega arith
-placed-more (gate.Sd q) h p = omega arith
-placed-more (gate.T q) h p = omega arith
-placed-more (gate.Td q) h p = omega arith
-placed-more (gate.Cx p q) h r = (omega arith, (omega arith, r .1 .1))
-placed-more (gate.Cz p q) h r = (omega arith, (omega arith, r .1 .1))
-placed-more (gate.Sw p q) h r = (omega arith, (omega arith, r .1 .1))
-
 pub line-ranged : (line : Bytes) → Ranged (readLine line)
 unfolding readLine
 line-ranged line = fields-ranged (fields line)

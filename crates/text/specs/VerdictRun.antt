@@ -6,8 +6,10 @@ use Prim.Native.Nat.{ℕ, _+_, _*_, _^_, min, max}
 use lib.ListN.{length, getD}
 use lib.Dec.{ltb}
 use Rattle.diagram.specs.Tensor.{Tensor}
+use Rattle.diagram.specs.Gates.{shape}
 use Rattle.diagram.specs.declared.gate.Gate.{Gate}
-use Rattle.diagram.specs.declared.gate.Gate.the-variants as gate
+use Rattle.diagram.specs.declared.gate.Shape.{Shape}
+use Rattle.diagram.specs.declared.gate.Shape.the-variants.{One, Two}
 use Rattle.text.specs.Text.{Bytes}
 use Rattle.text.specs.Verdict.{Reading, lists, fault, readText, printedRuling}
 use Rattle.text.specs.Session.{Capacity, unlimited, Tally, Reply, start, answer}
@@ -21,18 +23,12 @@ use Rattle.text.specs.declared.call.Call.{Call}
 use Rattle.text.specs.declared.call.Call.the-variants as call
 
 -- the qubits of a gate, "in rising order"
+abbrev pub qubitsOn : Shape → List ℕ
+qubitsOn (One q) = q ∷ []
+qubitsOn (Two a b) = min a b ∷ max a b ∷ []
+
 abbrev pub qubits : Gate → List ℕ
-qubits (gate.X q) = q ∷ []
-qubits (gate.Y q) = q ∷ []
-qubits (gate.Z q) = q ∷ []
-qubits (gate.H q) = q ∷ []
-qubits (gate.S q) = q ∷ []
-qubits (gate.Sd q) = q ∷ []
-qubits (gate.T q) = q ∷ []
-qubits (gate.Td q) = q ∷ []
-qubits (gate.Cx a b) = min a b ∷ max a b ∷ []
-qubits (gate.Cz a b) = min a b ∷ max a b ∷ []
-qubits (gate.Sw a b) = min a b ∷ max a b ∷ []
+qubits g = qubitsOn (shape g)
 
 -- "the middles of its qubits", as the mask of `cont`: qubit q has the middle 3q+1
 unfoldable pub middles : List ℕ → ℕ

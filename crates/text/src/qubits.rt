@@ -1,6 +1,7 @@
 // A gate's qubits in rising order, and the mask of their middles.
 use diagram::gate;
 use diagram::gate::Gate;
+use diagram::gate::Shape;
 ghost use mathlib.Core.Path.{_≡_};
 ghost use Prim.Native.Nat.{_+_, _*_, _^_, _<_};
 ghost use Rattle.text.specs.Gates.{Placed};
@@ -16,15 +17,15 @@ pub(crate) fn of(g: Gate) -> Qubits
     requires { ⌜ Placed 8 g ⌝ }
     ensures { λ r. ⌜ QubitsOf g r ⌝ }
 {
-    let p = gate::first(g);
-    let q = gate::second(g);
-    if p == q {
-        return Qubits::One(p);
+    match gate::shape_of(g) {
+        Shape::One(q) => Qubits::One(q),
+        Shape::Two(p, q) => {
+            if q < p {
+                return Qubits::Two(q, p);
+            }
+            Qubits::Two(p, q)
+        }
     }
-    if q < p {
-        return Qubits::Two(q, p);
-    }
-    Qubits::Two(p, q)
 }
 
 // 2 to the middle index of q.

@@ -5,7 +5,7 @@ use mathlib.Core.List.{List, [], _∷_}
 use Prim.Native.Nat.{ℕ}
 use types.Run.{OneOf, miss}
 use denote.Enum.Declared.{tagOf}
-use Rattle.diagram.specs.Matrices.{paired}
+use Rattle.diagram.specs.Matrices.{paired, cx-table, cz-table, sw-table}
 use Rattle.diagram.specs.Entry.{entry-single, entry-pair}
 use Rattle.diagram.specs.declared.gate.Gate.{Gate}
 use Rattle.diagram.specs.declared.gate.Gate.the-variants as gate
@@ -32,13 +32,13 @@ alone (gate.Cz a b) k = absurd (miss tags 9 tt k)
 alone (gate.Sw a b) k = absurd (miss tags 10 tt k)
 
 returns : tie.Need-returns
-returns c = search (needs, entry-pair)
+returns c = search (needs, entry-pair, cx-table)
 
 returns-2 : tie.Need-returns-2
-returns-2 c = search (needs, entry-pair)
+returns-2 c = search (needs, entry-pair, cz-table)
 
 returns-3 : tie.Need-returns-3
-returns-3 c = search (needs, entry-pair)
+returns-3 c = search (needs, entry-pair, sw-table)
 
 returns-4 : tie.Need-returns-4
 returns-4 c = search (needs, entry-single, alone)

@@ -4,10 +4,10 @@ use Rattle.text.proofs.qubits.of.Statement.{statement}
 use Rattle.text.proofs.qubits.of.Tie as tie
 
 returns : tie.Need-returns
-returns c = search (needs, qubits-one)
+returns c = search (needs, qubits-below)
 
 returns-2 : tie.Need-returns-2
-returns-2 c = search (needs, qubits-below)
+returns-2 c = search (needs, qubits-one)
 
 returns-3 : tie.Need-returns-3
 returns-3 c = search (needs, qubits-above)
@@ -16,4 +16,4 @@ pub of-spec : {M : Type 1} → statement M
 of-spec =
     tie.close
     (tie.spec
-    (λ c κs. search needs) (λ c κs. search needs) returns returns-2 returns-3)
+    (λ c κs. search needs) (λ c. search needs) (λ c. search needs) returns returns-2 returns-3)
