@@ -1,8 +1,8 @@
 -- The entries of a gate as the code finds them, and the indices on which they depend.
 use mathlib.Core.Path.{_≡_, refl, ap, sym, _∙_}
 use mathlib.Core.Logic.{_≢_}
-use mathlib.Core.Bool.{Bool, true, false, _&&_, _||_, not, true≢false, false≢true}
-use mathlib.Core.List.{List, [], _∷_, map}
+use mathlib.Core.Bool.{Bool, true, false, _&&_, _||_, not, true≢false}
+use mathlib.Core.List.{List, [], map}
 use Prim.Native.Nat.{ℕ, _+_, _*_, _/_, _%_, _<_}
 use native.Mathlib.Omega.{arith}
 use lib.Dec.{eqb}
@@ -14,7 +14,7 @@ use Rattle.field.specs.Code.{Stands}
 use Rattle.diagram.specs.Tensor.{Bits, bits, middle, fresh, set}
 use Rattle.diagram.specs.BitsLaws.{set-other}
 use Rattle.diagram.specs.Gates.{Matrix, numbers, matrix, bit, onQubit, shape, Rule, rule, entryOn, entry}
-use Rattle.diagram.specs.Matrices.{firstOn, secondOn, first, second, pairedOn, paired, tableRow, table}
+use Rattle.diagram.specs.Matrices.{firstOn, secondOn, first, second, each, table}
 use Rattle.diagram.specs.declared.gate.Gate.{Gate}
 use Rattle.diagram.specs.declared.gate.Shape.{Shape}
 use Rattle.diagram.specs.declared.gate.Shape.the-variants.{One, Two}
@@ -41,15 +41,11 @@ numbers-at m i j =
     let number : Weight → ℕ = λ w. w .number in
     ap (λ l. getD l j 0) (List·getD-map (map number) m i []) ∙ List·getD-map number (getD m i []) j 0W
 
-single-entry : (g : Gate) (f : Bits) → paired g ≡ false → entry g f ≡ onQubit (matrix g) (first g) f
+single-entry : (g : Gate) (f : Bits) → shape g ≡ One (first g) → entry g f ≡ onQubit (matrix g) (first g) f
 unfolding entry
-single-entry g f p = on (shape g) p
-  where
-    on : (x : Shape) → pairedOn x ≡ false → entryOn (matrix g) (rule g) x f ≡ onQubit (matrix g) (firstOn x) f
-    on (One q) p = refl
-    on (Two a b) p = absurd (true≢false p)
+single-entry g f p = ap (λ x. entryOn (matrix g) (rule g) x f) p
 
-pub entry-single : (g : Gate) (v : ℕ) {q r : ℕ} {m : List (List ℕ)} → paired g ≡ false → q ≡ first g → m ≡ numbers (matrix g)
+pub entry-single : (g : Gate) (v : ℕ) {q r : ℕ} {m : List (List ℕ)} → shape g ≡ One (first g) → q ≡ first g → m ≡ numbers (matrix g)
     → r ≡ getD (getD m (bit (bits v (fresh q))) []) (bit (bits v (middle q))) 0 → Stands r (entry g (bits v))
 unfolding onQubit
 entry-single g v p q e t = stands-number (entry g (bits v))
@@ -57,34 +53,31 @@ entry-single g v p q e t = stands-number (entry g (bits v))
 
 -- a gate on two qubits
 
-at-four : {A : Type 0} (f : Bool → Bool → A) (none : A) (x y : Bool)
-    → getD (f false false ∷ f false true ∷ f true false ∷ f true true ∷ []) (2 * bit x + bit y) none ≡ f x y
-at-four f none false false = refl
-at-four f none false true = refl
-at-four f none true false = refl
-at-four f none true true = refl
+at-each : {A : Type 0} (f : Bool → Bool → A) (none : A) (x y : Bool) → getD (each f) (2 * bit x + bit y) none ≡ f x y
+at-each f none false false = refl
+at-each f none false true = refl
+at-each f none true false = refl
+at-each f none true true = refl
 
-table-at : (r : Rule) (x y z w : Bool) → getD (getD (table r) (2 * bit x + bit y) []) (2 * bit z + bit w) 0 ≡ r x z y w .number
+table-at : (r : Rule) (x y z w : Bool)
+    → getD (getD (table r) (2 * bit x + bit y) []) (2 * bit z + bit w) 0 ≡ r x z y w .number
 unfolding table
 table-at r x y z w =
-    ap (λ l. getD l (2 * bit z + bit w) 0) (at-four (tableRow r) [] x y) ∙ at-four (λ z w. r x z y w .number) 0 z w
+    ap (λ l. getD l (2 * bit z + bit w) 0) (at-each (λ x y. each (λ z w. r x z y w .number)) [] x y)
+    ∙ at-each (λ z w. r x z y w .number) 0 z w
 
-double-entry : (g : Gate) (f : Bits) → paired g ≡ true
-    → rule g (f (fresh (first g))) (f (middle (first g))) (f (fresh (second g))) (f (middle (second g))) ≡ entry g f
+double-entry : (g : Gate) (f : Bits) → shape g ≡ Two (first g) (second g)
+    → entry g f ≡ rule g (f (fresh (first g))) (f (middle (first g))) (f (fresh (second g))) (f (middle (second g)))
 unfolding entry
-double-entry g f p = on (shape g) p
-  where
-    on : (x : Shape) → pairedOn x ≡ true
-        → rule g (f (fresh (firstOn x))) (f (middle (firstOn x))) (f (fresh (secondOn x))) (f (middle (secondOn x))) ≡ entryOn (matrix g) (rule g) x f
-    on (One q) p = absurd (false≢true p)
-    on (Two a b) p = refl
+double-entry g f p = ap (λ x. entryOn (matrix g) (rule g) x f) p
 
-pub entry-pair : {g h : Gate} (v : ℕ) {a b r : ℕ} {m : List (List ℕ)} → g ≡ h → paired h ≡ true → m ≡ table (rule h) → a ≡ first g → b ≡ second g
+pub entry-pair : {g h : Gate} (v : ℕ) {a b r : ℕ} {m : List (List ℕ)}
+    → g ≡ h → shape h ≡ Two (first h) (second h) → m ≡ table (rule h) → a ≡ first g → b ≡ second g
     → r ≡ getD (getD m (2 * bit (bits v (fresh a)) + bit (bits v (fresh b))) []) (2 * bit (bits v (middle a)) + bit (bits v (middle b))) 0
     → Stands r (entry g (bits v))
 entry-pair {g} {h} v e p q x y t =
     stands-number (entry g (bits v))
-    (t ∙ rw (q, x, y, e) (table-at (rule h) _ _ _ _ ∙ ap (λ (w : Weight). w .number) (double-entry h (bits v) p)))
+    (t ∙ rw (q, x, y, e) (table-at (rule h) _ _ _ _ ∙ ap (λ (w : Weight). w .number) (sym (double-entry h (bits v) p))))
 
 -- k is the middle or fresh index of one of the gate's qubits
 unfoldable pub uses : Gate → ℕ → Bool
@@ -102,20 +95,22 @@ unused g k n = go (eqb (k % 3) 0) refl
 
 -- an entry depends on the indices that the gate uses, and on no other
 
-pub agree-entry : (g : Gate) (f h : Bits) → f (middle (first g)) ≡ h (middle (first g)) → f (fresh (first g)) ≡ h (fresh (first g))
-    → f (middle (second g)) ≡ h (middle (second g)) → f (fresh (second g)) ≡ h (fresh (second g)) → entry g f ≡ entry g h
+-- f and h have the same values at the fresh and the middle index of q
+abbrev pub AgreeOn : Bits → Bits → ℕ → Type 0
+AgreeOn f h q = (f (fresh q) ≡ h (fresh q)) × (f (middle q) ≡ h (middle q))
+
+pub agree-entry : (g : Gate) (f h : Bits) → AgreeOn f h (first g) → AgreeOn f h (second g) → entry g f ≡ entry g h
 unfolding entry
-agree-entry g f h p p' r r' = on (shape g) p p' r r'
+agree-entry g f h p r = on (shape g) p r
   where
-    on : (x : Shape) → f (middle (firstOn x)) ≡ h (middle (firstOn x)) → f (fresh (firstOn x)) ≡ h (fresh (firstOn x))
-        → f (middle (secondOn x)) ≡ h (middle (secondOn x)) → f (fresh (secondOn x)) ≡ h (fresh (secondOn x))
+    on : (x : Shape) → AgreeOn f h (firstOn x) → AgreeOn f h (secondOn x)
         → entryOn (matrix g) (rule g) x f ≡ entryOn (matrix g) (rule g) x h
-    on (One q) p p' r r' = unfold onQubit in rw (p, p')
-    on (Two a b) p p' r r' = rw (p, p', r, r')
+    on (One q) p r = unfold onQubit in rw (p .0, p .1)
+    on (Two a b) p r = rw (p .0, p .1, r .0, r .1)
 
 pub unused-entry : (g : Gate) (k : ℕ) (b : Bool) (f : Bits) → uses g k ≡ false → entry g (set k b f) ≡ entry g f
 unfolding uses
-unused-entry g k b f e = agree-entry g (set k b f) f (mid (first g) left) (last (first g) left) (mid (second g) right) (last (second g) right)
+unused-entry g k b f e = agree-entry g (set k b f) f (same (first g) left) (same (second g) right)
   where
     left : k % 3 ≢ 0 → k / 3 ≢ first g
     left n q = true≢false (sym (rw (ne-eqb (k % 3) 0 n, eq-eqb (k / 3) (first g) q)) ∙ e)
@@ -127,8 +122,8 @@ unused-entry g k b f e = agree-entry g (set k b f) f (mid (first g) left) (last 
         or-true true = refl
         or-true false = refl
 
-    mid : (q : ℕ) → (k % 3 ≢ 0 → k / 3 ≢ q) → set k b f (middle q) ≡ f (middle q)
-    mid q n = set-other (middle q) k b f (λ i. n (λ z. omega arith) (omega arith))
-
-    last : (q : ℕ) → (k % 3 ≢ 0 → k / 3 ≢ q) → set k b f (fresh q) ≡ f (fresh q)
-    last q n = set-other (fresh q) k b f (λ i. n (λ z. omega arith) (omega arith))
+    same : (q : ℕ) → (k % 3 ≢ 0 → k / 3 ≢ q) → AgreeOn (set k b f) f q
+    same q n = (
+      set-other (fresh q) k b f (λ i. n (λ z. omega arith) (omega arith)),
+      set-other (middle q) k b f (λ i. n (λ z. omega arith) (omega arith)),
+    )

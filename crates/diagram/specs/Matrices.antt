@@ -29,14 +29,6 @@ second g = secondOn (shape g)
 pub as-shape : {g h : Gate} {x : Shape} → g ≡ h → x ≡ shape h → x ≡ shape g
 as-shape p e = e ∙ ap shape (sym p)
 
--- is it a gate on two qubits?
-abbrev pub pairedOn : Shape → Bool
-pairedOn (One q) = false
-pairedOn (Two a b) = true
-
-abbrev pub paired : Gate → Bool
-paired g = pairedOn (shape g)
-
 abbrev two : ℕ → ℕ → ℕ → ℕ → List (List ℕ)
 two a b c d = (a ∷ b ∷ []) ∷ (c ∷ d ∷ []) ∷ []
 
@@ -71,23 +63,26 @@ single-is (gate.Sw a b) = refl
 pub as-matrix : {g h : Gate} {m : List (List ℕ)} → g ≡ h → m ≡ single h → m ≡ numbers (matrix g)
 as-matrix {g} {h} p e = e ∙ single-is h ∙ ap (λ x. numbers (matrix x)) (sym p)
 
--- the entries of a rule: rows are the values of the fresh indices, columns those of the middles, the first qubit's counting double
-abbrev pub tableRow : Rule → Bool → Bool → List ℕ
-tableRow r x y =
-    r x false y false .number ∷ r x false y true .number ∷ r x true y false .number ∷ r x true y true .number ∷ []
+-- f at the values 00, 01, 10 and 11
+abbrev pub each : {A : Type 0} → (Bool → Bool → A) → List A
+each f = f false false ∷ f false true ∷ f true false ∷ f true true ∷ []
 
+-- the entries of a rule: rows are the values of the fresh indices, columns those of the middles
 unfoldable pub table : Rule → List (List ℕ)
-table r = tableRow r false false ∷ tableRow r false true ∷ tableRow r true false ∷ tableRow r true true ∷ []
+table r = each (λ fa fb. each (λ ma mb. r fa ma fb mb .number))
+
+abbrev row : ℕ → ℕ → ℕ → ℕ → List ℕ
+row a b c d = a ∷ b ∷ c ∷ d ∷ []
 
 module _ (a b : ℕ) where
-  pub cx-table : (1 ∷ 0 ∷ 0 ∷ 0 ∷ []) ∷ (0 ∷ 1 ∷ 0 ∷ 0 ∷ []) ∷ (0 ∷ 0 ∷ 0 ∷ 1 ∷ []) ∷ (0 ∷ 0 ∷ 1 ∷ 0 ∷ []) ∷ [] ≡ table (rule (gate.Cx a b))
+  pub cx-table : row 1 0 0 0 ∷ row 0 1 0 0 ∷ row 0 0 0 1 ∷ row 0 0 1 0 ∷ [] ≡ table (rule (gate.Cx a b))
   unfolding table xor toWeight 0W 1W
   cx-table = refl
 
-  pub cz-table : (1 ∷ 0 ∷ 0 ∷ 0 ∷ []) ∷ (0 ∷ 1 ∷ 0 ∷ 0 ∷ []) ∷ (0 ∷ 0 ∷ 1 ∷ 0 ∷ []) ∷ (0 ∷ 0 ∷ 0 ∷ 65536 ∷ []) ∷ [] ≡ table (rule (gate.Cz a b))
+  pub cz-table : row 1 0 0 0 ∷ row 0 1 0 0 ∷ row 0 0 1 0 ∷ row 0 0 0 65536 ∷ [] ≡ table (rule (gate.Cz a b))
   unfolding table toWeight 0W 1W negateW
   cz-table = refl
 
-  pub sw-table : (1 ∷ 0 ∷ 0 ∷ 0 ∷ []) ∷ (0 ∷ 0 ∷ 1 ∷ 0 ∷ []) ∷ (0 ∷ 1 ∷ 0 ∷ 0 ∷ []) ∷ (0 ∷ 0 ∷ 0 ∷ 1 ∷ []) ∷ [] ≡ table (rule (gate.Sw a b))
+  pub sw-table : row 1 0 0 0 ∷ row 0 0 1 0 ∷ row 0 1 0 0 ∷ row 0 0 0 1 ∷ [] ≡ table (rule (gate.Sw a b))
   unfolding table toWeight 0W 1W
   sw-table = refl

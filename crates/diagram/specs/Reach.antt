@@ -93,6 +93,7 @@ reached-cofactor x T r = cofactor-from x T 0 T start r
 pub cofactor-reached : {d : ℕ} (n : ℕ) (x T : Tensor d) → Cofactor n T x → Reached x T
 cofactor-reached n x T c = got-reached x T (c .j) (c .tensor) (c .got) (itself (c .index) (c .depends) (c .is))
 
--- `Covers` in document 01's words: the set has the normal multiple of each nonconstant tensor got from A by fixing indices 0 to j-1
+-- `Covers` in document 01's words: the set has the normal multiple of each nonconstant tensor got from A
+-- "by fixing indices 0 to j-1"
 pub covers-exactly : {d : ℕ} (s : Set d) (A : Tensor d) → Covers s A ↔ ((x : Tensor d) → Cofactor d A x → member x s ≡ true)
 covers-exactly {d} s A = (λ c x k. c .is x (cofactor-reached d x A k), λ h. record { is = λ x r. h x (reached-cofactor x A r) })

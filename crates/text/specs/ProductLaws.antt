@@ -20,7 +20,7 @@ use Rattle.diagram.specs.Tabulate.{Sees, bits-none}
 use Rattle.diagram.specs.Gates.{shape, entry, gateTensor, straight, unitEntry, unitTensor}
 use Rattle.diagram.specs.GateLaws.{gate-at, unit-at}
 use Rattle.diagram.specs.Matrices.{firstOn, secondOn}
-use Rattle.diagram.specs.Entry.{agree-entry}
+use Rattle.diagram.specs.Entry.{AgreeOn, agree-entry}
 use Rattle.diagram.specs.declared.gate.Gate.{Gate}
 use Rattle.diagram.specs.declared.gate.Shape.{Shape}
 use Rattle.diagram.specs.declared.gate.Shape.the-variants.{One, Two}
@@ -55,16 +55,12 @@ rising-below n least [] r = tt
 rising-below n least (q ∷ qs) r = (omega arith, rising-below n (suc q) qs (r .2))
 
 -- its entries depend on the middle and the fresh index of its qubits alone
-
-abbrev Alike : Bits → Bits → ℕ → Type 0
-Alike x y q = (x (fresh q) ≡ y (fresh q)) × (x (middle q) ≡ y (middle q))
-
-entry-alike : (g : Gate) (x y : Bits) → Each (Alike x y) (qubits g) → entry g x ≡ entry g y
-entry-alike g x y e = let h = both (shape g) e in agree-entry g x y (h .0 .1) (h .0 .0) (h .1 .1) (h .1 .0)
+entry-alike : (g : Gate) (x y : Bits) → Each (AgreeOn x y) (qubits g) → entry g x ≡ entry g y
+entry-alike g x y e = let h = both (shape g) e in agree-entry g x y (h .0) (h .1)
   where
-    both : (s : Shape) → Each (Alike x y) (qubitsOn s) → Alike x y (firstOn s) × Alike x y (secondOn s)
+    both : (s : Shape) → Each (AgreeOn x y) (qubitsOn s) → AgreeOn x y (firstOn s) × AgreeOn x y (secondOn s)
     both (One q) e = (e .0, e .0)
-    both (Two a b) e = min-max (Alike x y) a b (e .0) (e .1 .0)
+    both (Two a b) e = min-max (AgreeOn x y) a b (e .0) (e .1 .0)
 
 -- a gate's input and output at their indices
 
