@@ -1,4 +1,4 @@
--- What the bytes that a verdict writes say: demand 2 and document 01's "Verdicts", for who reads the output alone (its
+-- What the bytes that a verdict writes say: demand 2 and document 01's "Verdicts", to a reader of the output alone (its
 -- theorems: VerdictBytesLaws).
 use mathlib.Core.Path.{_≡_}
 use mathlib.Core.Logic.{_≢_, _↔_, _⊎_}
