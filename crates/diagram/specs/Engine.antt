@@ -2,11 +2,12 @@
 use mathlib.Core.Path.{_≡_, ap, subst, _∙_}
 use mathlib.Core.Bool.{true, false}
 use mathlib.Core.List.{List}
+use mathlib.Core.Option.{some}
 use Prim.Native.Nat.{ℕ, zero, suc, _-_, _≤_, _<_}
 use native.Mathlib.Omega.{arith}
 use lib.ListN.{length}
 use Rattle.field.specs.Weight.{Weight, 0W}
-use Rattle.diagram.specs.Tensor.{indices, Tensor, constant, scale, fix, Normal}
+use Rattle.diagram.specs.Tensor.{indices, Tensor, constant, scale, top, fix, Normal}
 use Rattle.diagram.specs.TensorLaws.{isZero-constant}
 use Rattle.diagram.specs.Tally.{Set, Step}
 use Rattle.diagram.specs.Sets.{Grown, grown-refl}
@@ -117,7 +118,12 @@ module _ {s : List ℕ} {st : State} (h : Sound s st) where
   valid : {e : edges.Edge} → Valid (st .count) e → Valid (length (nodesOf s st)) e
   valid v = rw (nodes-length s st) v
 
-  -- every node's tensor is normal
+  -- every node's tensor is normal, and its top is the node's index
+  pub node-top : (n : ℕ) → 1 ≤ n → n ≤ st .count → top (tensorAt (setOf s st) n) ≡ some (nodeAt s n .index)
+  unfolding setOf
+  node-top n p q =
+      laws.node-top indices (nodesOf s st) (h .nodes) n p (within q) ∙ ap (λ (x : Node). some (x .index)) (node-at indices s st n p q)
+
   pub node-normal : (n : ℕ) → 1 ≤ n → n ≤ st .count → Normal (tensorAt (setOf s st) n)
   unfolding setOf
   node-normal n p q = laws.node-normal indices (nodesOf s st) (h .nodes) n p (within q)

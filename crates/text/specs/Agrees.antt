@@ -7,7 +7,7 @@ use mathlib.Core.List.{List, []}
 use Prim.Native.Nat.{ℕ, suc, _-_, _*_, _^_, _≤_, _<_}
 use lib.ListN.{length, getD, take}
 use Rattle.diagram.specs.Weights.{Weight, toWeight}
-use Rattle.diagram.specs.Tensor.{Tensor, indices, value, scale, fix, Normal}
+use Rattle.diagram.specs.Tensor.{Tensor, indices, value, scale, top, fix, Normal}
 use Rattle.diagram.specs.Tally.{Set}
 use Rattle.diagram.specs.Node.{nodeAt}
 use Rattle.diagram.specs.Listed.{listed}
@@ -42,8 +42,9 @@ Agree A B = (v : ℕ) → v < 2 ^ indices → value A v ≡ value B v
 
 -- Node n of the store s, where ts are the tensors of its nodes from 1 up: "A node has an index, and a weight and a node number for low and for high."
 pub record IsNode (s : Bytes) (ts : Set indices) (n : ℕ) : Type 0 where
-  -- "the indices 0 to 23"
+  -- its index is one of "the indices 0 to 23", and the top of its tensor: "the lowest index on which it depends"
   pub index : nodeAt s n .index < 24
+  pub top : top (tensorAt ts n) ≡ some (nodeAt s n .index)
   -- low and high each: the weight is below 65537, the node's number is smaller than n, and "Zero is weight 0 at node 0."
   pub low : Valid (n - 1) (nodeAt s n .low)
   pub high : Valid (n - 1) (nodeAt s n .high)

@@ -14,7 +14,7 @@ use Rattle.diagram.specs.Tensor.{Tensor, indices, indices-24, scale}
 use Rattle.diagram.specs.ValueLaws.{agree-exactly}
 use Rattle.diagram.specs.Node.{edge-eq}
 use Rattle.diagram.specs.Meaning.{tensorAt, edgeIn, Valid}
-use Rattle.diagram.specs.Engine.{nodesOf, setOf, tensorOf, node-normal, node-placed, node-low, node-high, node-multiple, edge-unique}
+use Rattle.diagram.specs.Engine.{nodesOf, setOf, tensorOf, node-top, node-normal, node-placed, node-low, node-high, node-multiple, edge-unique}
 use Rattle.diagram.specs.Registers.{occupied, emptyRegister, holds, holdsAll, holds-at, register-valid, register-empty}
 use Rattle.diagram.specs.Standing.{Standing}
 use Rattle.diagram.specs.declared.node.Edge.{Edge}
@@ -68,6 +68,7 @@ module _ {c s : List ℕ} {st : State} {rs : List Register} (p : Standing c s st
       let x = node-placed (p .held) n k l in
       rw (node-tensors s st) record {
         index = rw indices-24 at (x .index);
+        top = node-top (p .held) n k l;
         low = x .low;
         high = x .high;
         at-0 = node-low (p .held) n k l;
