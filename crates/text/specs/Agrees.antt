@@ -94,16 +94,17 @@ pub record Unchanged (s s' : Bytes) (m m' : ℕ) (rs rs' : List Register) : Type
 -- One line more of a run: s and r are the store and the result before it, s' and r' after it. The tally before it is t, the line `line`.
 pub record OneLine (c : Capacity) (line : Bytes) (t : Tally indices) (s s' : Bytes) (r r' : Session) : Type 0 where
   pub lines : r' .lines ≡ suc (r .lines)
+  pub long : length s' ≡ length s
   pub refused : isNo (answer c (readLine line) t .0) ≡ true
       → Unchanged s s' (r .count) (r' .count) (r .registers .all) (r' .registers .all)
 
--- "all of this holds at the start and after each line answered": a run of the lines ls from what the tally's t stands for, as the stores, outputs and
--- results that it passes. Each agrees with the tally's run of exactly the lines answered so far.
-pub data Passes (c : Capacity) (o : Bytes) (ls : List Bytes) (t : Run indices) : Bytes → Bytes → Session → Type 0 where
-  start : {s : Bytes} {r : Session} → r .lines ≡ 0 → Agrees s o o r t → Passes c o ls t s o r
-  line : {s o' : Bytes} {r : Session} {s' o'' : Bytes} {r' : Session} → Passes c o ls t s o' r
+-- "all of this holds at the start and after each line answered": a run of the lines ls, from the store s₀ and the result r₀ that stand for the tally's
+-- t, as the stores, outputs and results that it passes. Each agrees with the tally's run of exactly the lines answered so far.
+pub data Passes (c : Capacity) (o : Bytes) (ls : List Bytes) (t : Run indices) (s₀ : Bytes) (r₀ : Session) : Bytes → Bytes → Session → Type 0 where
+  start : r₀ .lines ≡ 0 → Agrees s₀ o o r₀ t → Passes c o ls t s₀ r₀ s₀ o r₀
+  line : {s o' : Bytes} {r : Session} {s' o'' : Bytes} {r' : Session} → Passes c o ls t s₀ r₀ s o' r
       → OneLine c (getD ls (r .lines) []) (run c (length o) (take (r .lines) ls) t .tally) s s' r r'
-      → Agrees s' o o'' r' (run c (length o) (take (r' .lines) ls) t) → Passes c o ls t s' o'' r'
+      → Agrees s' o o'' r' (run c (length o) (take (r' .lines) ls) t) → Passes c o ls t s₀ r₀ s' o'' r'
 
 -- the result before "the run stops with 9", which changes the code alone
 abbrev pub beforeStop : Session → Session
@@ -112,7 +113,10 @@ beforeStop r = record { code = 0; lines = r .lines; bytes = r .bytes; count = r 
 -- demand 3 of a whole session: at its end, and on the way to that end
 pub record AgreesThroughout (c : Capacity) (ls : List Bytes) (t : Run indices) (s o o' : Bytes) (r : Session) : Type 0 where
   pub ends : Agrees s o o' r (run c (length o) ls t)
-  pub passes : Passes c o ls t s o' (beforeStop r)
+  -- the store and the result at the start
+  pub from : Bytes
+  pub first : Session
+  pub passes : Passes c o ls t from first s o' (beforeStop r)
 
 -- what a run passes after j lines, and by the line after those (the laws: after-each-line, each-line)
 pub record Point (c : Capacity) (o : Bytes) (ls : List Bytes) (t : Run indices) (j : ℕ) : Type 0 where

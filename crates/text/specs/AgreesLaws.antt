@@ -119,25 +119,25 @@ module _ {s o o' : Bytes} {r : Session} {t : Run indices} (a : Agrees s o o' r t
 
 -- what a run passes
 
-module _ {c : Capacity} {o : Bytes} {ls : List Bytes} {t : Run indices} where
-  pub passes-agrees : {s o' : Bytes} {r : Session} → Passes c o ls t s o' r → Agrees s o o' r (run c (length o) (take (r .lines) ls) t)
+module _ {c : Capacity} {o : Bytes} {ls : List Bytes} {t : Run indices} {s₀ : Bytes} {r₀ : Session} where
+  pub passes-agrees : {s o' : Bytes} {r : Session} → Passes c o ls t s₀ r₀ s o' r → Agrees s o o' r (run c (length o) (take (r .lines) ls) t)
   unfolding run
-  passes-agrees (start {s} {r} z a) = subst (λ n. Agrees s o o r (run c (length o) (take n ls) t)) (sym z) a
+  passes-agrees (start z a) = subst (λ n. Agrees s₀ o o r₀ (run c (length o) (take n ls) t)) (sym z) a
   passes-agrees (line b l a) = a
 
-  passes-point : {s o' : Bytes} {r : Session} → Passes c o ls t s o' r → Point c o ls t (r .lines)
+  passes-point : {s o' : Bytes} {r : Session} → Passes c o ls t s₀ r₀ s o' r → Point c o ls t (r .lines)
   passes-point {s} {o'} {r} b = record { store = s; output = o'; result = r; lines = refl; agrees = passes-agrees b }
 
   -- "at the start and after each line answered"
-  pub after-each-line : {s o' : Bytes} {r : Session} → Passes c o ls t s o' r → (j : ℕ) → j ≤ r .lines → Point c o ls t j
-  after-each-line (start {r = r} z a) j p = let e : r .lines ≡ j = omega arith in subst (Point c o ls t) e (passes-point (start z a))
+  pub after-each-line : {s o' : Bytes} {r : Session} → Passes c o ls t s₀ r₀ s o' r → (j : ℕ) → j ≤ r .lines → Point c o ls t j
+  after-each-line (start z a) j p = let e : r₀ .lines ≡ j = omega arith in subst (Point c o ls t) e (passes-point (start z a))
   after-each-line (line {r' = r'} b l a) j p = elim (ℕ-discrete (r' .lines) j) [
     | yes e ↦ subst (Point c o ls t) e (passes-point (line b l a))
     | no n ↦ after-each-line b j (omega (arith, l .lines))
   ]
 
   -- "a refused line changes no register and leaves no new node", for each line that a session answers
-  pub each-line : {s o' : Bytes} {r : Session} → Passes c o ls t s o' r → (j : ℕ) → j < r .lines → Between c o ls t j
+  pub each-line : {s o' : Bytes} {r : Session} → Passes c o ls t s₀ r₀ s o' r → (j : ℕ) → j < r .lines → Between c o ls t j
   unfolding passes-point
   each-line (start z a) j p = absurd (omega arith)
   each-line (line {r = r} {s' = s'} {o''} {r'} b l a) j p = elim (ℕ-discrete (r .lines) j) [

@@ -38,6 +38,10 @@ stopped p = record { code = 9; lines = p .lines; bytes = p .bytes; place = p .pl
 abbrev pub resultOf : Progress → Session
 resultOf p = record { code = p .code; lines = p .lines; bytes = p .bytes; count = p .engine .state .count; registers = p .engine .registers }
 
+-- the result before the first line
+abbrev pub atStart : Engine → Session
+atStart e = record { code = 0; lines = 0; bytes = 0; count = e .state .count; registers = e .registers }
+
 -- the run that has come to p, as the tally's
 unfoldable pub runOf : List ℕ → Bytes → Progress → Run indices
 runOf s o p = record { code = p .code; answered = p .lines; output = take (p .bytes) o; tally = tallyOf s (p .engine) }
@@ -76,7 +80,11 @@ pub record Resumed (text : Bytes) (limit : ℕ) (e : Engine) (s c' s' : List ℕ
   pub standing : Standing c' s' (r .engine .state) (r .engine .registers .all)
   pub rest : lines (drop (r .place) text) ≡ drop (r .lines) (lines text)
   pub tally : tallyOf s' (r .engine) ≡ run (most (capacity s)) (length o) (take limit (lines text)) (begunAt (tallyOf s e)) .tally
+  pub place : r .place ≤ length text + 1
   pub agrees : AgreesThroughout (most (capacity s)) (take limit (lines text)) (begunAt (tallyOf s e)) s' o o' (resultOf r)
+  -- the run begins with this store and this engine
+  pub from : agrees .from ≡ s
+  pub first : agrees .first ≡ atStart e
 
 -- On the way: the engine is where the tally's run of the lines answered so far is.
 pub record Going (text : Bytes) (limit : ℕ) (e : Engine) (s₀ : List ℕ) (o₀ : Bytes) (c s : List ℕ) (o : Bytes) (p : Progress) : Type 0 where
@@ -85,12 +93,13 @@ pub record Going (text : Bytes) (limit : ℕ) (e : Engine) (s₀ : List ℕ) (o�
   pub code : p .code ≡ 0
   pub few : p .lines ≤ limit
   pub passed : p .lines ≤ p .place
+  pub within : p .place ≤ length text + 1
   pub bytes : p .bytes ≤ length o
   pub size : length o ≡ length o₀
   pub rest : lines (drop (p .place) text) ≡ drop (p .lines) (lines text)
   pub untouched : drop (p .bytes) o ≡ drop (p .bytes) o₀
   pub now : run (most (capacity s₀)) (length o₀) (take (p .lines) (take limit (lines text))) (begunAt (tallyOf s₀ e)) ≡ runOf s o p
-  pub passes : Passes (most (capacity s₀)) o₀ (take limit (lines text)) (begunAt (tallyOf s₀ e)) s o (beforeStop (resultOf p))
+  pub passes : Passes (most (capacity s₀)) o₀ (take limit (lines text)) (begunAt (tallyOf s₀ e)) s₀ (atStart e) s o (beforeStop (resultOf p))
 
 -- bytes written behind others
 
@@ -186,14 +195,18 @@ agrees-now {s = s} {o} {o₀} p h b u = record {
 
 resumed : {text : Bytes} {limit : ℕ} {e : Engine} {s₀ c s : List ℕ} {o₀ o : Bytes} {p : Progress} → Standing c s (p .engine .state) (p .engine .registers .all)
     → p .bytes ≤ length o → lines (drop (p .place) text) ≡ drop (p .lines) (lines text) → drop (p .bytes) o ≡ drop (p .bytes) o₀
-    → Passes (most (capacity s₀)) o₀ (take limit (lines text)) (begunAt (tallyOf s₀ e)) s o (beforeStop (resultOf p))
+    → p .place ≤ length text + 1
+    → Passes (most (capacity s₀)) o₀ (take limit (lines text)) (begunAt (tallyOf s₀ e)) s₀ (atStart e) s o (beforeStop (resultOf p))
     → run (most (capacity s₀)) (length o₀) (take limit (lines text)) (begunAt (tallyOf s₀ e)) ≡ runOf s o p
     → Resumed text limit e s₀ c s o₀ o p
-resumed {s = s} {o₀ = o₀} {o} {p} h b r u w q = record {
+resumed {e = e} {s₀ = s₀} {s = s} {o₀ = o₀} {o} {p} h b r u k w q = record {
   standing = h;
   rest = r;
+  place = k;
   tally = unfold runOf in ap (λ (x : Run indices). x .tally) (sym q);
-  agrees = record { ends = subst (Agrees s o₀ o (resultOf p)) (sym q) (agrees-now p h b u); passes = w };
+  agrees = record { ends = subst (Agrees s o₀ o (resultOf p)) (sym q) (agrees-now p h b u); from = s₀; first = atStart e; passes = w };
+  from = refl;
+  first = refl;
 }
 
 -- the loop
@@ -211,6 +224,7 @@ going-start {e = e} {o = o} p = record {
   code = refl;
   few = omega arith;
   passed = omega arith;
+  within = omega arith;
   bytes = omega arith;
   size = refl;
   rest = refl;
@@ -290,6 +304,7 @@ module _ {text : Bytes} {limit : ℕ} {e : Engine} {s₀ : List ℕ} {o₀ : Byt
     turn-line : OneLine (most (capacity s₀)) (getD allowed (p .lines) []) (runs (take (p .lines) allowed) from .tally) s s' (beforeStop (resultOf p)) (beforeStop (resultOf r))
     turn-line = record {
       lines = a .lines ∙ add-one (p .lines);
+      long = u;
       refused = λ no. a .refused ((rw (getD-next (p .lines) allowed [] (next h m (w .ends)), g .now, tally-now, ← g .long) at no));
     }
 
@@ -300,6 +315,7 @@ module _ {text : Bytes} {limit : ℕ} {e : Engine} {s₀ : List ℕ} {o₀ : Byt
       code = a .code;
       few = omega (arith, a .lines, g .few, m);
       passed = omega (arith, a .lines, a .place, g .passed, w .ends .from);
+      within = omega (arith, a .place, w .ends .within);
       bytes = turn-bytes;
       size = v ∙ g .size;
       rest = rw (a .place, a .lines) (sym (drop-one (p .lines) (lines text) (sym (g .rest) ∙ lines-first h (w .ends))));
@@ -312,7 +328,7 @@ module _ {text : Bytes} {limit : ℕ} {e : Engine} {s₀ : List ℕ} {o₀ : Byt
 
   -- the lines answered so far are all
   ended : take (p .lines) allowed ≡ allowed → Resumed text limit e s₀ c s o₀ o p
-  ended q = resumed (g .standing) (g .bytes) (g .rest) (g .untouched) (g .passes) (ap (λ ls. runs ls from) (sym q) ∙ g .now)
+  ended q = resumed (g .standing) (g .bytes) (g .rest) (g .untouched) (g .within) (g .passes) (ap (λ ls. runs ls from) (sym q) ∙ g .now)
 
   pub going-end : length text ≤ p .place → Resumed text limit e s₀ c s o₀ o p
   going-end h =
@@ -327,7 +343,7 @@ module _ {text : Bytes} {limit : ℕ} {e : Engine} {s₀ : List ℕ} {o₀ : Byt
   unfolding runOf tally.stopped
   going-stop h m n q =
       let k = ends-from LF text (p .place) (omega arith) in
-      rw q (resumed {p = stopped p} (g .standing) (g .bytes) (g .rest) (g .untouched) (g .passes)
+      rw q (resumed {p = stopped p} (g .standing) (g .bytes) (g .rest) (g .untouched) (g .within) (g .passes)
       (all-run h m k ∙ next-run h m k _ ∙ rw (lt-leb (p .bytes + 16) (length o₀) (omega (arith, g .size, g .bytes)))))
 
 -- a session from the start
