@@ -1,6 +1,6 @@
 -- What the engine holds between two lines, read as a tally, and how a call that sets a register ends.
-use mathlib.Core.Path.{_≡_, ap, sym, subst, _∙_}
-use mathlib.Core.Bool.{true, false≢true}
+use mathlib.Core.Path.{_≡_, refl, ap, sym, subst, _∙_}
+use mathlib.Core.Bool.{true, false, false≢true}
 use mathlib.Core.List.{List}
 use Prim.Native.Nat.{ℕ, _≤_, _<_}
 use native.Mathlib.Omega.{arith}
@@ -13,6 +13,7 @@ use Rattle.diagram.specs.Node.{capacity}
 use Rattle.diagram.specs.Engine.{nodesOf, setOf, tensorOf, set-length, Done, Over, Does, done-fits}
 use Rattle.diagram.specs.Steps.{stays}
 use Rattle.diagram.specs.BuildSteps.{constant-valid, constant-tensor}
+use Rattle.diagram.specs.Cache.{Stepped}
 use Rattle.diagram.specs.Operation.{Worked, Works, works-done, works-over}
 use Rattle.diagram.specs.Restore.{Fresh, Left, Restored, failed-left}
 use Rattle.diagram.specs.Registers.{emptied, filledWith, holds, holdsAll, holds-set, Registered}
@@ -26,10 +27,12 @@ use Rattle.diagram.specs.declared.registers.Registers.{Registers}
 use Rattle.text.specs.Answers.{isNo, Small}
 use Rattle.text.specs.Session.{most, Tally, start, count, refuse, accept, settle, answer}
 use Rattle.text.specs.Agrees.{Unchanged}
+use Rattle.text.specs.declared.answer.Answer.{Answer}
 use Rattle.text.specs.declared.answer.Answer.the-variants.{Ok, No}
 use Rattle.text.specs.declared.call.Refusal.{Refusal}
 use Rattle.text.specs.declared.call.Refusal.the-variants.{Full}
 use Rattle.text.specs.declared.call.Call.{Call}
+use Rattle.text.specs.declared.call.Call.the-variants as call
 use Rattle.text.specs.declared.engine.Engine.{Engine}
 use Rattle.text.specs.declared.engine.Reply.{Reply}
 
@@ -58,6 +61,27 @@ abbrev pub RefusedUnchanged : List ℕ → List ℕ → Engine → Reply → Typ
 RefusedUnchanged s s' e r =
     isNo (r .answer) ≡ true → Unchanged s s' (e .state .count) (r .engine .state .count) (e .registers .all) (r .engine .registers .all)
 
+-- "A remembered result made before a collection, or by an earlier call that was refused, is never used.": no entry of the cache is of the epoch
+-- after it. A call that has begun is refused as full; another refusal remembers nothing.
+abbrev pub Forgotten : List ℕ → Reply → Type 0
+Forgotten c' r = Stepped c' (r .engine .state .epoch)
+
+abbrev pub FullForgets : List ℕ → Reply → Type 0
+FullForgets c' r = r .answer ≡ No Full → Forgotten c' r
+
+abbrev pub Forgets : Call → List ℕ → Reply → Type 0
+Forgets (call.Put d w) = FullForgets
+Forgets (call.Gate d g) = FullForgets
+Forgets (call.Unit d n) = FullForgets
+Forgets (call.Add d a b) = FullForgets
+Forgets (call.Cont d a b m) = FullForgets
+Forgets (call.Low d a k) = FullForgets
+Forgets (call.Drop a) = FullForgets
+Forgets call.Collect = Forgotten
+Forgets (call.At a v) = FullForgets
+Forgets (call.Cmp a b) = FullForgets
+Forgets (call.Refused why) = λ c' r. Unit {0}
+
 -- what a step that did not fit leaves can be rolled back
 pub record Leaves (c s : List ℕ) (st : State) (m : Made) : Type 0 where
   pub left : m ≡ made.Full → Left c s st
@@ -68,6 +92,7 @@ pub record Settled (c' s s' : List ℕ) (e : Engine) (d : ℕ) (f : Step indices
   pub small : Small (r .answer)
   pub is : settle (most (capacity s)) d (f (setOf s (e .state))) (tallyOf s e) ≡ (r .answer, tallyOf s' (r .engine))
   pub refused : RefusedUnchanged s s' e r
+  pub forgets : FullForgets c' r
 
 -- whatever step made m, over the store s₀ before it
 pub record Settles (c s c' s' : List ℕ) (e : Engine) (d : ℕ) (m : Made) (r : Reply) : Type 0 where
@@ -79,6 +104,7 @@ pub record Responds (c' s s' : List ℕ) (e : Engine) (x : Call) (r : Reply) : T
   pub small : Small (r .answer)
   pub is : answer (most (capacity s)) x (tallyOf s e) ≡ (r .answer, tallyOf s' (r .engine))
   pub refused : RefusedUnchanged s s' e r
+  pub forgets : Forgets x c' r
 
 -- the same for a call that reads the store and the cache at most, over every cache; and for one that reads neither
 pub record Observes (s : List ℕ) (e : Engine) (x : Call) (r : Reply) : Type 0 where
@@ -116,6 +142,10 @@ rolls-back {c'} {s} {s'} {e} b q f = record {
   registers = ap (λ (n : Engine). n .registers .all) (f .engine) ∙ ap (λ (n : Registers). n .all) q;
 }
 
+-- an accepted call is not refused as full
+pub never-full : {X : Type 0} (a : Answer) → isNo a ≡ false → a ≡ No Full → X
+never-full a p q = absurd (false≢true (sym p ∙ ap isNo q))
+
 pub nodes-unchanged : {s s' : List ℕ} (st st' : State) {rs rs' : List Register} → nodesOf s' st' ≡ nodesOf s st → rs' ≡ rs
     → Unchanged s s' (st .count) (st' .count) rs rs'
 unfolding nodesOf
@@ -130,6 +160,7 @@ settles-full {c} {s} {c'} {s'} {e} {d} {m} {r} q b = record { on = on }
       small = rw (b .answer) tt;
       is = rw (b .answer) (settle-over s' (r .engine) d (works-over f m w q .over) (b .restored .kept) (b .registers));
       refused = λ no. nodes-unchanged (e .state) (r .engine .state) (b .restored .kept ∙ works-over f m w q .over .kept) (b .registers);
+      forgets = λ full. b .restored .forgotten;
     }
 
 pub settles-put : {c s : List ℕ} {e : Engine} {d : ℕ} {m : Made} {x : Edge} {t : State} {rs : Registers} → m ≡ made.Edge x t
@@ -146,6 +177,7 @@ settles-put {c} {s} {e} {d} {m} {x} {t} {rs} q b = record { on = on }
           small = omega (arith, n .done .held .stored .numbered);
           is = settle-done d (p .registers) (n .done) b;
           refused = λ no. absurd (false≢true no);
+          forgets = never-full (Ok (t .count)) refl;
         }
 
 -- a step's answer can be settled

@@ -28,13 +28,13 @@ use Rattle.diagram.specs.declared.registers.Register.{Register}
 use Rattle.diagram.specs.declared.registers.Registers.{Registers}
 use Rattle.diagram.specs.declared.registers.Held.{Held}
 use Rattle.diagram.specs.declared.registers.Held.the-variants as held
-use Rattle.text.specs.Calls.{Ranged}
-use Rattle.text.specs.Answers.{Small}
+use Rattle.text.specs.Calls.{refusalNumber, Ranged}
+use Rattle.text.specs.Answers.{isNo, Small}
 use Rattle.text.specs.Session.{most, Reply as TallyReply, count, refuse, accept, settle, holding, register, comparison, answer}
 use Rattle.text.specs.Agrees.{Unchanged}
-use Rattle.text.specs.Engine.{tallyOf, Refuses, RefusedUnchanged, Settled, Settles, Responds, Observes, Replies, nodes-unchanged, settled-put, settled-does}
+use Rattle.text.specs.Engine.{tallyOf, Refuses, RefusedUnchanged, FullForgets, Forgets, Settled, Settles, Responds, Observes, Replies, never-full, nodes-unchanged, settled-put, settled-does}
 use Rattle.text.specs.declared.answer.Answer.{Answer}
-use Rattle.text.specs.declared.answer.Answer.the-variants.{Ok, Value, Same, Factor, Differ}
+use Rattle.text.specs.declared.answer.Answer.the-variants.{Ok, No, Value, Same, Factor, Differ}
 use Rattle.text.specs.declared.call.Refusal.{Refusal}
 use Rattle.text.specs.declared.call.Refusal.the-variants.{Empty, Depends}
 use Rattle.text.specs.declared.call.Call.{Call}
@@ -71,95 +71,110 @@ module _ (s : List ℕ) (e : Engine) {a : ℕ} {h : Held} (r : Reads (e .registe
 
 -- refusals that have begun nothing
 
+abbrev number : Answer → ℕ
+number (Ok n) = 0
+number (No r) = refusalNumber r
+number (Value w) = 0
+number Same = 0
+number (Factor f) = 0
+number Differ = 0
+
+empty-forgets : {c : List ℕ} {e : Engine} {r : Reply} → Refuses e Empty r → FullForgets c r
+empty-forgets f q = absurd (let z : _≡_ {A = ℕ} 3 8 = ap number (sym (f .answer) ∙ q) in omega arith)
+
+depends-forgets : {c : List ℕ} {e : Engine} {r : Reply} → Refuses e Depends r → FullForgets c r
+depends-forgets f q = absurd (let z : _≡_ {A = ℕ} 7 8 = ap number (sym (f .answer) ∙ q) in omega arith)
+
 module _ {c s : List ℕ} {e : Engine} {r : Reply} (p : Standing c s (e .state) (e .registers .all)) where
-  pub refused : {x : Call} {why : Refusal} → Refuses e why r → answer (most (capacity s)) x (tallyOf s e) ≡ refuse why (tallyOf s e) → Responds c s s e x r
+  pub refused : {x : Call} {why : Refusal} → Forgets x c r → Refuses e why r → answer (most (capacity s)) x (tallyOf s e) ≡ refuse why (tallyOf s e) → Responds c s s e x r
   unfolding refuse
-  refused {x} {why} f q = record {
+  refused {x} {why} n f q = record {
     standing = rw (f .engine) p;
     small = rw (f .answer) tt;
     is = rw (f .answer, f .engine) q;
     refused = λ no. rw (f .engine) record { nodes = refl; registers = refl };
+    forgets = n;
   }
 
   pub refused-line : {x : Call} {why : Refusal} → x ≡ call.Refused why → Refuses e why r → Responds c s s e x r
   unfolding answer
-  refused-line q f = refused f (rw q)
+  refused-line q f = refused (rw q tt) f (rw q)
 
   module _ {a : ℕ} {h : Held} (g : Reads (e .registers .all) a h) (q : h ≡ held.Empty) (f : Refuses e Empty r) where
     pub empty-add : {d b : ℕ} → Responds c s s e (call.Add d a b) r
     unfolding answer
-    empty-add = refused f (operand-empty s e g _ q)
+    empty-add = refused (empty-forgets f) f (operand-empty s e g _ q)
 
     pub empty-cont : {d b m : ℕ} → Responds c s s e (call.Cont d a b m) r
     unfolding answer
-    empty-cont = refused f (operand-empty s e g _ q)
+    empty-cont = refused (empty-forgets f) f (operand-empty s e g _ q)
 
     pub empty-low : {d k : ℕ} → Responds c s s e (call.Low d a k) r
     unfolding answer
-    empty-low = refused f (operand-empty s e g _ q)
+    empty-low = refused (empty-forgets f) f (operand-empty s e g _ q)
 
   -- the second operand
   module _ {a b : ℕ} {h g : Held} {x : Edge} (i : Reads (e .registers .all) a h) (o : h ≡ held.Edge x)
       (j : Reads (e .registers .all) b g) (q : g ≡ held.Empty) (f : Refuses e Empty r) where
     pub empty-add-2 : {d : ℕ} → Responds c s s e (call.Add d a b) r
     unfolding answer
-    empty-add-2 = refused f (operand s e i _ o ∙ operand-empty s e j _ q)
+    empty-add-2 = refused (empty-forgets f) f (operand s e i _ o ∙ operand-empty s e j _ q)
 
     pub empty-cont-2 : {d m : ℕ} → Responds c s s e (call.Cont d a b m) r
     unfolding answer
-    empty-cont-2 = refused f (operand s e i _ o ∙ operand-empty s e j _ q)
+    empty-cont-2 = refused (empty-forgets f) f (operand s e i _ o ∙ operand-empty s e j _ q)
 
 module _ {e : Engine} {r : Reply} {a : ℕ} {h : Held} (g : Reads (e .registers .all) a h) where
   pub empty-drop : h ≡ held.Empty → Refuses e Empty r → Replies e (call.Drop a) r
   unfolding answer
-  empty-drop q f = record { on = λ c s p. refused p f (operand-empty s e g _ q) }
+  empty-drop q f = record { on = λ c s p. refused p (empty-forgets f) f (operand-empty s e g _ q) }
 
   pub empty-at : {s : List ℕ} {v : ℕ} → h ≡ held.Empty → Refuses e Empty r → Observes s e (call.At a v) r
   unfolding answer
-  empty-at {s} q f = record { on = λ c p. refused p f (operand-empty s e g _ q) }
+  empty-at {s} q f = record { on = λ c p. refused p (empty-forgets f) f (operand-empty s e g _ q) }
 
   pub empty-cmp : {b : ℕ} → h ≡ held.Empty → Refuses e Empty r → Replies e (call.Cmp a b) r
   unfolding answer
-  empty-cmp q f = record { on = λ c s p. refused p f (operand-empty s e g _ q) }
+  empty-cmp q f = record { on = λ c s p. refused p (empty-forgets f) f (operand-empty s e g _ q) }
 
   pub empty-cmp-2 : {b : ℕ} {k : Held} {x : Edge} → h ≡ held.Edge x → Reads (e .registers .all) b k → k ≡ held.Empty → Refuses e Empty r
       → Replies e (call.Cmp a b) r
   unfolding answer
-  empty-cmp-2 o j q f = record { on = λ c s p. refused p f (operand s e g _ o ∙ operand-empty s e j _ q) }
+  empty-cmp-2 o j q f = record { on = λ c s p. refused p (empty-forgets f) f (operand s e g _ o ∙ operand-empty s e j _ q) }
 
 -- the calls that set a register
 
 module _ {c' s s' : List ℕ} {e : Engine} {d : ℕ} {r : Reply} where
-  settled-as : {f : Step indices} {x : Call} → answer (most (capacity s)) x (tallyOf s e) ≡ settle (most (capacity s)) d (f (setOf s (e .state))) (tallyOf s e)
+  settled-as : {f : Step indices} {x : Call} → (FullForgets c' r → Forgets x c' r) → answer (most (capacity s)) x (tallyOf s e) ≡ settle (most (capacity s)) d (f (setOf s (e .state))) (tallyOf s e)
       → Settled c' s s' e d f r → Responds c' s s' e x r
-  settled-as q h = record { standing = h .standing; small = h .small; is = q ∙ h .is; refused = h .refused }
+  settled-as n q h = record { standing = h .standing; small = h .small; is = q ∙ h .is; refused = h .refused; forgets = n (h .forgets) }
 
   module _ {c : List ℕ} (p : Standing c s (e .state) (e .registers .all)) where
     pub responds-put : {w : ℕ} → w < 65537 → Settles c s c' s' e d (made.Edge (record { weight = w; node = 0 }) (e .state)) r
         → Responds c' s s' e (call.Put d w) r
     unfolding answer return tallyOf
-    responds-put {w} small h = settled-as {f = return (constant indices (toWeight w))} refl (settled-put p small h)
+    responds-put {w} small h = settled-as {f = return (constant indices (toWeight w))} (λ z. z) refl (settled-put p small h)
 
     pub responds-gate : {s₁ : List ℕ} {m : Made} {g : Gate} → Does s s₁ (e .state) (build (gateTensor indices g)) m → Settles c s₁ c' s' e d m r
         → Responds c' s s' e (call.Gate d g) r
     unfolding answer tallyOf
-    responds-gate {g = g} w h = settled-as {f = build (gateTensor indices g)} refl (settled-does p _ w h)
+    responds-gate {g = g} w h = settled-as {f = build (gateTensor indices g)} (λ z. z) refl (settled-does p _ w h)
 
     pub responds-unit : {s₁ : List ℕ} {m : Made} {n : ℕ} → Does s s₁ (e .state) (build (unitTensor indices n)) m → Settles c s₁ c' s' e d m r
         → Responds c' s s' e (call.Unit d n) r
     unfolding answer tallyOf
-    responds-unit {n = n} w h = settled-as {f = build (unitTensor indices n)} refl (settled-does p _ w h)
+    responds-unit {n = n} w h = settled-as {f = build (unitTensor indices n)} (λ z. z) refl (settled-does p _ w h)
 
   module _ {a b : ℕ} {h g : Held} {x y : Edge} (i : Reads (e .registers .all) a h) (o : h ≡ held.Edge x)
       (j : Reads (e .registers .all) b g) (q : g ≡ held.Edge y) where
     pub responds-add : Settled c' s s' e d (sum (tensorOf s (e .state) x) (tensorOf s (e .state) y)) r → Responds c' s s' e (call.Add d a b) r
     unfolding answer tallyOf
-    responds-add w = settled-as (operand s e i _ o ∙ operand s e j _ q) w
+    responds-add w = settled-as (λ z. z) (operand s e i _ o ∙ operand s e j _ q) w
 
     pub responds-cont : {m : ℕ} → Settled c' s s' e d (cont (tensorOf s (e .state) x) (tensorOf s (e .state) y) (bits m)) r
         → Responds c' s s' e (call.Cont d a b m) r
     unfolding answer tallyOf
-    responds-cont w = settled-as (operand s e i _ o ∙ operand s e j _ q) w
+    responds-cont w = settled-as (λ z. z) (operand s e i _ o ∙ operand s e j _ q) w
 
 -- looking whether a tensor depends on an index leaves the tally alone
 alike-tally : {s s' : List ℕ} (e : Engine) → Alike s s' → tallyOf s' e ≡ tallyOf s e
@@ -180,6 +195,7 @@ pub record Lowers (c' s s' : List ℕ) (e : Engine) (d k : ℕ) (x : Edge) (r : 
       (settle (most (capacity s)) d (low k (tensorOf s (e .state) x) (setOf s (e .state))) (tallyOf s e))
       ≡ (r .answer, tallyOf s' (r .engine))
   pub refused : RefusedUnchanged s s' e r
+  pub forgets : FullForgets c' r
 
 module _ {s s₁ : List ℕ} {e : Engine} {d k j : ℕ} {x : Edge} {b : Bool} {r : Reply} (w : Depended s s₁ (e .state) x j b) where
   pub refused-depends : {c : List ℕ} → Standing c s (e .state) (e .registers .all) → j ≡ k - 1 → b ≡ true → Refuses e Depends r → Lowers c s s₁ e d k x r
@@ -189,6 +205,7 @@ module _ {s s₁ : List ℕ} {e : Engine} {d k j : ℕ} {x : Edge} {b : Bool} {r
     small = rw (f .answer) tt;
     is = rw (← m, ← w .is, q, f .answer, f .engine, alike-tally e (w .alike));
     refused = λ no. rw (f .engine) (nodes-unchanged (e .state) (e .state) (alike-nodes (e .state) (w .alike)) refl);
+    forgets = depends-forgets f;
   }
 
   pub lowers : {c' s' : List ℕ} → j ≡ k - 1 → 1 ≤ k → b ≡ false → Settled c' s₁ s' e d (low (j + 1) (tensorOf s₁ (e .state) x)) r → Lowers c' s s' e d k x r
@@ -198,6 +215,7 @@ module _ {s s₁ : List ℕ} {e : Engine} {d k j : ℕ} {x : Edge} {b : Bool} {r
     small = f .small;
     is = lowered ∙ f .is;
     refused = λ no. unchanged-alike (w .alike) (f .refused no);
+    forgets = f .forgets;
   }
     where
       up : j + 1 ≡ k
@@ -216,6 +234,7 @@ responds-low {s = s} {e = e} i o w = record {
   small = w .small;
   is = operand s e i _ o ∙ w .is;
   refused = w .refused;
+  forgets = w .forgets;
 }
 
 -- the others
@@ -226,6 +245,11 @@ comparison-factor q = ap comparison (sym q)
 -- weights of valid edges are small
 pub read-small : {m : ℕ} {rs : List Register} {i : ℕ} {x : Edge} {h : Held} → Registered m rs → i < 16 → Reads rs i h → h ≡ held.Edge x → x .weight < 65537
 read-small {h = h} g p r q = read-valid h g p r q .small
+
+comparison-accepted : (r : Comparison) → isNo (comparison r) ≡ false
+comparison-accepted compare.Same = refl
+comparison-accepted (compare.Factor f) = refl
+comparison-accepted compare.Differ = refl
 
 small-comparison : (A B : Tensor indices) (r : Comparison) → Says A B r → Small (comparison r)
 small-comparison A B compare.Same n = tt
@@ -245,6 +269,7 @@ module _ {e : Engine} {a : ℕ} {h : Held} {x : Edge} (i : Reads (e .registers .
         small = omega (arith, p .held .stored .numbered);
         is = operand s e i _ o ∙ rw (set-length s (e .state), q, holds-set (setOf s (e .state)) (e .registers .all) a emptyRegister);
         refused = λ no. absurd (false≢true no);
+        forgets = never-full (Ok (e .state .count)) refl;
       }
 
   pub responds-at : {s : List ℕ} {v w : ℕ} → Stands w (value (tensorOf s (e .state) x) v)
@@ -258,6 +283,7 @@ module _ {e : Engine} {a : ℕ} {h : Held} {x : Edge} (i : Reads (e .registers .
         small = omega (arith, n .small);
         is = operand s e i _ o ∙ ap (λ n. (Value n, tallyOf s e)) (sym (stands-number n));
         refused = λ no. record { nodes = refl; registers = refl };
+        forgets = never-full (Value w) refl;
       }
 
   pub responds-cmp : {b : ℕ} {g : Held} {y : Edge} {r : Comparison} {n : Answer} → a < 16 → b < 16 → Reads (e .registers .all) b g → g ≡ held.Edge y
@@ -274,6 +300,7 @@ module _ {e : Engine} {a : ℕ} {h : Held} {x : Edge} (i : Reads (e .registers .
             small = subst Small (sym m) (small-comparison _ _ r (subst (Says _ _) t (compared-says (tensorOf s (e .state) x) (tensorOf s (e .state) y))));
             is = operand s e i _ o ∙ operand s e j _ q ∙ ap (λ z. (z, tallyOf s e)) (ap comparison t ∙ sym m);
             refused = λ no. record { nodes = refl; registers = refl };
+            forgets = never-full n (ap isNo m ∙ comparison-accepted r);
           }
 
 pub responds-collect : {c' s s' : List ℕ} {e : Engine} {st : State} {rs : Registers} → Collected c' s s' (e .state) st (e .registers .all) (rs .all)
@@ -284,4 +311,5 @@ responds-collect {s' = s'} {st = st} w = record {
   small = omega (arith, w .held .stored .numbered);
   is = rw (w .same, ← w .set, set-length s' st);
   refused = λ no. absurd (false≢true no);
+  forgets = w .forgotten;
 }
