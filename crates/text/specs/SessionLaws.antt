@@ -3,15 +3,18 @@ use mathlib.Core.Path.{_≡_, refl, sym}
 use mathlib.Core.Bool.{Bool, true, false, cond, false≢true}
 use mathlib.Core.List.{List, [], _∷_, _++_}
 use mathlib.Core.Option.{Option, none, some}
-use Prim.Native.Nat.{ℕ, _+_, _-_}
+use Prim.Native.Nat.{ℕ, suc, _+_, _-_, _≤_}
+use native.Mathlib.Omega.{arith}
+use borrow.Author.Tests.{le-leb, leb-true}
 use lib.Dec.{leb}
 use lib.ListN.{length, getD, set}
 use Rattle.diagram.specs.Tensor.{Tensor, depends}
-use Rattle.diagram.specs.Tally.{Set}
+use Rattle.diagram.specs.Tally.{Set, member, within, collect}
 use Rattle.text.specs.Text.{Bytes}
 use Rattle.text.specs.Calls.{readLine}
 use Rattle.text.specs.Answers.{isNo}
-use Rattle.text.specs.Session.{Capacity, fits, Tally, Reply, accept, refuse, settle, holding, register, answer, Run, more, stopped, run}
+use Rattle.text.specs.Session.{Capacity, most, unlimited, fits, Tally, count, Reply, accept, refuse, settle, holding, register, answer, Run, more, stopped, run}
+use Rattle.text.specs.declared.answer.Answer.the-variants.{Ok}
 use Rattle.text.specs.declared.call.Refusal.the-variants.{Full, Depends}
 use Rattle.text.specs.declared.call.Call.{Call}
 use Rattle.text.specs.declared.call.Call.the-variants as call
@@ -77,3 +80,75 @@ module _ {d : ℕ} (c : Capacity) (t : Tally d) where
   refused-leaves (call.At a v) = kept-register a _ (λ A e. refl)
   refused-leaves (call.Cmp a b) = kept-register a _ (λ A. kept-register b _ (λ B e. refl))
   refused-leaves (call.Refused r) = λ e. refl
+
+-- The tally's set never exceeds the capacity, so `put`, which puts nothing in, is never refused as full.
+
+fits-fewer : (c : Capacity) (m n : ℕ) → m ≤ n → fits c n ≡ true → fits c m ≡ true
+fits-fewer (most c) m n p e = le-leb m c (omega (arith, leb-true n c e))
+fits-fewer unlimited m n p e = refl
+
+within-fewer : {d : ℕ} (l : List (Tensor d)) (s : Set d) → length (within l s) ≤ length s
+unfolding within
+within-fewer l [] = omega arith
+within-fewer l (x ∷ s) = go (member x l) (within-fewer l s)
+  where
+    go : (b : Bool) → length (within l s) ≤ length s → length (cond b (x ∷ within l s) (within l s)) ≤ suc (length s)
+    go true p = omega arith
+    go false p = omega arith
+
+module _ {d : ℕ} (c : Capacity) (t : Tally d) (h : fits c (count t) ≡ true) where
+  abbrev Fit : Reply d → Type 0
+  Fit y = fits c (count (y .1)) ≡ true
+
+  fit-settle : (r : ℕ) (y : Tensor d × Set d) → Fit (settle c r y t)
+  unfolding settle accept refuse count
+  fit-settle r y = go (fits c (length (y .1))) refl
+    where
+      go : (b : Bool) → fits c (length (y .1)) ≡ b
+          → Fit (cond b (accept (record { nodes = y .1; registers = set (t .registers) r (some (y .0)) })) (refuse Full t))
+      go true e = e
+      go false e = h
+
+  fit-register : (a : ℕ) (f : Tensor d → Reply d) → ((T : Tensor d) → Fit (f T)) → Fit (register t a f)
+  unfolding register holding refuse
+  fit-register a f k = go (getD (t .registers) a none)
+    where
+      go : (o : Option (Tensor d)) → Fit (holding o t f)
+      go none = h
+      go (some T) = k T
+
+  fit-low : (b : Bool) (r : ℕ) (y : Tensor d × Set d) → Fit (cond b (refuse Depends t) (settle c r y t))
+  unfolding refuse
+  fit-low true r y = h
+  fit-low false r y = fit-settle r y
+
+  pub answer-fits : (x : Call) → fits c (count (answer c x t .1)) ≡ true
+  unfolding answer accept refuse count collect
+  answer-fits (call.Put r w) = fit-settle r _
+  answer-fits (call.Gate r g) = fit-settle r _
+  answer-fits (call.Unit r n) = fit-settle r _
+  answer-fits (call.Add r a b) = fit-register a _ (λ A. fit-register b _ (λ B. fit-settle r _))
+  answer-fits (call.Cont r a b m) = fit-register a _ (λ A. fit-register b _ (λ B. fit-settle r _))
+  answer-fits (call.Low r a k) = fit-register a _ (λ A. fit-low (depends (k - 1) A) r _)
+  answer-fits (call.Drop a) = fit-register a _ (λ A. h)
+  answer-fits call.Collect = fits-fewer c _ (length (t .nodes)) (within-fewer _ (t .nodes)) h
+  answer-fits (call.At a v) = fit-register a _ (λ A. h)
+  answer-fits (call.Cmp a b) = fit-register a _ (λ A. fit-register b _ (λ B. h))
+  answer-fits (call.Refused r) = h
+
+  -- "`put d w` .. Refuses 1, 2, 4."
+  pub put-accepted : (r w : ℕ) → answer c (call.Put r w) t .0 ≡ Ok (count t)
+  unfolding answer settle accept count
+  put-accepted r w = rw h
+
+pub run-fits : {d : ℕ} (c : Capacity) (room : ℕ) (ls : List Bytes) (r : Run d) → fits c (count (r .tally)) ≡ true
+    → fits c (count (run c room ls r .tally)) ≡ true
+unfolding run more stopped
+run-fits c room [] r h = h
+run-fits c room (l ∷ ls) r h =
+    go (leb (length (r .output) + 16) room) (run-fits c room ls (more r (answer c (readLine l) (r .tally))) (answer-fits c (r .tally) h (readLine l)))
+  where
+    go : (b : Bool) → fits c (count (run c room ls (more r (answer c (readLine l) (r .tally))) .tally)) ≡ true
+        → fits c (count (cond b (run c room ls (more r (answer c (readLine l) (r .tally)))) (stopped r) .tally)) ≡ true
+    go true p = p
+    go false p = h
