@@ -8,6 +8,12 @@ ghost use Prim.Native.Nat.{_≤_};
 ghost use lib.ListN.{length};
 ghost use Rattle.session.specs.Answer.{Ready, Answered, Replied};
 
+// What a line leaves, and whether every answer so far was written.
+pub struct Told {
+    pub engine: Engine,
+    pub written: bool,
+}
+
 // Puts the answer at the front of the output. The LF makes an empty line a line.
 fn reply(
     line: &mut [u8],
@@ -26,21 +32,22 @@ fn reply(
     progress::resume(&line[..e], store, cache, out, 1, engine)
 }
 
-// Writes the answer, which 16 bytes hold, and answers what the line leaves.
+// Runs the line and writes its answer, which 16 bytes hold.
 pub fn answer(
     line: &mut [u8],
     store: &mut [u8],
     cache: &mut [u64],
     squeeze: Squeeze,
     engine: Engine,
-) -> Engine
+) -> Told
     requires { ⌜ Ready (now line) (now cache) (now store) squeeze engine ⌝ }
-    ensures { λ r. ⌜ Answered (now (line .entry)) squeeze engine (now (store .entry)) (now (cache .exit)) (now (store .exit)) r ⌝ }
+    ensures { λ r. ⌜ Answered (now (line .entry)) squeeze engine (now (store .entry)) (now (cache .exit)) (now (store .exit)) (r .engine) ⌝ }
 {
     let mut out = [0u8; 16];
     let p = reply(line, store, cache, &mut out, squeeze, engine);
     let a = 0;
     let n = p.bytes;
-    io::write_all(STDOUT_FILENO, &out[a..n]);
-    p.engine
+    let written = io::write_all(STDOUT_FILENO, &out[a..n]);
+    let engine = p.engine;
+    Told { engine, written }
 }

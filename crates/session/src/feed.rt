@@ -1,15 +1,17 @@
-// An input's lines, from parts that end anywhere.
+// An input's lines, from parts that end anywhere. After the first answer that could not be written no line is run: answer k belongs to line k.
 use crate::answer;
+use crate::answer::Told;
 use text::engine::Engine;
 use text::squeeze;
 use text::squeeze::Squeeze;
 ghost use mathlib.Core.List.{[], _∷_};
-ghost use Rattle.session.specs.Feed.{Keeps, Takes};
+ghost use Rattle.session.specs.Feed.{Keeps, Takes, Ends};
 
-// The line that has come so far, and what the lines before it left.
+// The line that has come so far, what the lines before it left, and whether all their answers were written.
 pub struct Held {
     pub squeeze: Squeeze,
     pub engine: Engine,
+    pub written: bool,
 }
 
 fn step(line: &mut [u8], store: &mut [u8], cache: &mut [u64], held: Held, b: u8) -> Held
@@ -18,13 +20,27 @@ fn step(line: &mut [u8], store: &mut [u8], cache: &mut [u64], held: Held, b: u8)
 {
     let squeeze = held.squeeze;
     let engine = held.engine;
-    if b == b'\n' {
-        let engine = answer::answer(line, store, cache, squeeze, engine);
-        let squeeze = squeeze::none();
-        return Held { squeeze, engine };
+    let written = held.written;
+    if written {
+        if b == b'\n' {
+            let told = answer::answer(line, store, cache, squeeze, engine);
+            let squeeze = squeeze::none();
+            let engine = told.engine;
+            let written = told.written;
+            return Held {
+                squeeze,
+                engine,
+                written,
+            };
+        }
+        let squeeze = squeeze::push(line, squeeze, b);
+        return Held {
+            squeeze,
+            engine,
+            written,
+        };
     }
-    let squeeze = squeeze::push(line, squeeze, b);
-    Held { squeeze, engine }
+    held
 }
 
 // The bytes that come next.
@@ -42,12 +58,18 @@ pub fn feed(line: &mut [u8], store: &mut [u8], cache: &mut [u64], held: Held, pa
 }
 
 // "a last part without LF counts unless empty"; of a line that has a byte, one is kept.
-pub fn last(line: &mut [u8], store: &mut [u8], cache: &mut [u64], held: Held)
+pub fn last(line: &mut [u8], store: &mut [u8], cache: &mut [u64], held: Held) -> Told
     requires { ⌜ Keeps (now line) (now cache) (now store) held ⌝ }
+    ensures { λ r. ⌜ Ends (now (line .entry)) (now (cache .entry)) (now (store .entry)) held (now (store .exit)) r ⌝ }
 {
     let squeeze = held.squeeze;
     let engine = held.engine;
-    if 0 < squeeze.length {
-        answer::answer(line, store, cache, squeeze, engine);
+    let written = held.written;
+    if written {
+        if 0 < squeeze.length {
+            return answer::answer(line, store, cache, squeeze, engine);
+        }
+        return Told { engine, written };
     }
+    Told { engine, written }
 }

@@ -1,15 +1,20 @@
-// Standard input, part after part.
-use libc::STDIN_FILENO;
+// Standard input, part after part, into one buffer.
+use stdin::Came;
+use stdin::Next;
+ghost use mathlib.Core.List.{[], _∷_};
+ghost use Rattle.io.specs.Counts.{Counts};
+ghost use Rattle.verdict.specs.Input.{Takes, Took, Reads, Received};
 
-// So many bytes have come; no more will; or reading failed, and nobody knows what is missing.
-pub enum Turn {
-    More(usize),
-    End,
-    Failed,
+// How many bytes have come, and what the last read says of what comes next.
+pub struct Turn {
+    pub len: usize,
+    pub next: Next,
 }
 
 // One byte more, and how many have come; a byte that does not fit is counted once and not kept.
-fn put(text: &mut [u8], len: usize, b: u8) -> usize {
+fn put(text: &mut [u8], len: usize, b: u8) -> usize
+    ensures { λ r. ⌜ Takes (b ∷ []) (now (text .entry)) len (now (text .exit)) r ⌝ }
+{
     if len < text.len() {
         text[len] = b;
         return len + 1;
@@ -17,7 +22,9 @@ fn put(text: &mut [u8], len: usize, b: u8) -> usize {
     text.len() + 1
 }
 
-fn feed(text: &mut [u8], len: usize, part: &[u8]) -> usize {
+fn feed(text: &mut [u8], len: usize, part: &[u8]) -> usize
+    ensures { λ r. ⌜ Takes (now (part .entry)) (now (text .entry)) len (now (text .exit)) r ⌝ }
+{
     let mut n = len;
     let mut i = 0;
     while i < part.len() {
@@ -27,16 +34,48 @@ fn feed(text: &mut [u8], len: usize, part: &[u8]) -> usize {
     n
 }
 
-// Reads once, behind the `len` bytes that are there.
-pub fn read(text: &mut [u8], len: usize) -> Turn {
+// Takes in what came, which stands at the front of `part`, behind the `len` bytes that are there.
+fn take(text: &mut [u8], len: usize, came: Came, part: &[u8]) -> Turn
+    requires { ⌜ Counts (came .count) (now part) ⌝ }
+    ensures { λ r. ⌜ Took came (now (part .entry)) (now (text .entry)) len (now (text .exit)) r ⌝ }
+{
+    let n = came.count;
+    let next = came.next;
+    let len = feed(text, len, &part[..n]);
+    Turn { len, next }
+}
+
+fn read(text: &mut [u8], len: usize) -> Turn
+    ensures { λ r. ⌜ Reads (now (text .entry)) len (now (text .exit)) r ⌝ }
+{
     let mut part = io::buffer();
-    let got = libc::read(STDIN_FILENO, &mut part);
-    if got < 0 {
-        return Turn::Failed;
+    let came = stdin::read(&mut part);
+    take(text, len, came, &part)
+}
+
+fn goes_on(next: Next) -> bool {
+    match next {
+        Next::More => true,
+        _ => false,
     }
-    if got == 0 {
-        return Turn::End;
+}
+
+// Reads to the input's end. A proved loop has to end, and nothing says that an input does. So it counts down from a number that no run uses up.
+pub fn receive(text: &mut [u8]) -> Turn
+    ensures { λ r. ⌜ Received (now (text .exit)) (r .len) ⌝ }
+{
+    let mut t = Turn {
+        len: 0,
+        next: Next::More,
+    };
+    let mut turns = u64::MAX;
+    while 0 < turns {
+        t = read(text, t.len);
+        let next = t.next;
+        if !goes_on(next) {
+            return t;
+        }
+        turns -= 1;
     }
-    let n = io::count(got, &part);
-    Turn::More(feed(text, len, &part[..n]))
+    t
 }

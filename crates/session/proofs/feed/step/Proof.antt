@@ -1,5 +1,5 @@
 use borrow.Author.Needs.{needs}
-use Rattle.session.specs.FeedLaws.{takes-end, takes-byte}
+use Rattle.session.specs.FeedLaws.{takes-end, takes-byte, takes-lost}
 use Rattle.session.proofs.feed.step.Statement.{statement}
 use Rattle.session.proofs.feed.step.Tie as tie
 
@@ -9,9 +9,12 @@ returns c = search (needs, takes-end)
 returns-2 : tie.Need-returns-2
 returns-2 c = search (needs, takes-byte)
 
+returns-3 : tie.Need-returns-3
+returns-3 c = search (needs, takes-lost)
+
 pub step-spec : {M : Type 1} → statement M
 step-spec =
     tie.close
     (tie.spec
     (λ c κs. search needs) (λ c κs. search needs) (λ c. search needs) (λ c. search needs) (λ c. search needs) returns
-    (λ c κs. search needs) (λ c. search needs) returns-2)
+    (λ c κs. search needs) (λ c. search needs) returns-2 returns-3)
