@@ -186,7 +186,7 @@ first-all : {text : Bytes} {s : List ℕ} {e : Engine} → Ran (lines text) s e 
 first-all {text} r = record { done = lines text; others = []; split = sym (append-nil (lines text)); ran = r }
 
 module _ {line c s : List ℕ} {h : Held} where
-  pub ends-lost : h .written ≡ false → Ends line c s h s (record { engine = h .engine; written = h .written })
+  pub ends-lost : h .written ≡ false → Ends line c s h s (record { engine = h .engine; written = false })
   ends-lost w = record {
     all = λ text f o. absurd (let i : _≡_ {A = ℕ} 0 1 = cc in omega arith);
     first = λ text f. first-to (f .to);
@@ -194,7 +194,7 @@ module _ {line c s : List ℕ} {h : Held} where
     store = λ o. refl;
   }
 
-  pub ends-whole : h .written ≡ true → h .squeeze .length ≤ 0 → Ends line c s h s (record { engine = h .engine; written = h .written })
+  pub ends-whole : h .written ≡ true → h .squeeze .length ≤ 0 → Ends line c s h s (record { engine = h .engine; written = true })
   ends-whole w z = record { all = λ text f o. whole text f; first = λ text f. first-all (whole text f); stays = λ o. refl; store = λ o. refl }
     where
       whole : (text : Bytes) → Fed text line c s h → Ran (lines text) s (h .engine)

@@ -1,9 +1,12 @@
 -- The loop over the input, and its end.
 use mathlib.Core.Path.{_≡_, refl}
-use mathlib.Core.Bool.{true}
+use mathlib.Core.Logic.{_≢_}
+use mathlib.Core.Bool.{true, false}
 use mathlib.Core.List.{List, [], _++_}
 use Prim.Native.Nat.{ℕ, _≤_}
+use native.Mathlib.Omega.{arith}
 use lib.ListN.{length, take}
+use Rattle.stdin.specs.declared.Next.the-variants.{More, End, Failed}
 use Rattle.text.specs.Engine.{Started}
 use Rattle.text.specs.Squeeze.{Begun}
 use Rattle.text.specs.declared.engine.Engine.{Engine}
@@ -11,11 +14,12 @@ use Rattle.text.specs.declared.squeeze.Squeeze.{Squeeze}
 use Rattle.session.specs.Answer.{none}
 use Rattle.session.specs.Feed.{Ends}
 use Rattle.session.specs.FeedLaws.{ran-none, first-to}
-use Rattle.session.specs.Input.{Reads, Serving, Served}
+use Rattle.session.specs.Input.{Reads, Serving, Closes, Finishes, Served}
 use Rattle.session.specs.declared.answer.Told.{Told}
 use Rattle.session.specs.declared.feed.Held.{Held}
 use Rattle.session.specs.declared.input.Turn.{Turn}
 use Rattle.session.specs.declared.outcome.Ending.the-variants.{Whole, Unread, Unwritten}
+use Rattle.session.specs.declared.outcome.Outcome.{Outcome}
 
 -- the loop
 
@@ -35,15 +39,46 @@ serving-on v w = record { text = v .text ++ take (w .came .count) (w .part); fed
 
 -- the end
 
-pub served-unwritten : {line c s : List ℕ} {h : Held} → Serving line c s h → Served s (record { engine = h .engine; ending = Unwritten })
-served-unwritten v = record { text = v .text; runs = first-to (v .fed .to) }
+module _ {line c s s' : List ℕ} {h : Held} {t : Told} (e : Ends line c s h s' t) where
+  pub closes-whole : t .written ≡ true → Closes line c s h s' (record { engine = t .engine; ending = Whole })
+  closes-whole w = record { on = λ text f. e .all text f w; read = λ q. let i : _≡_ {A = ℕ} 0 1 = cc in omega arith }
 
-pub served-unread : {line c s : List ℕ} {h : Held} → h .written ≡ true → Serving line c s h → Served s (record { engine = h .engine; ending = Unread })
-served-unread w v = record { text = v .text; runs = record { to = v .fed .to; unbroken = v .fed .seen w .unbroken } }
+  pub closes-unwritten : Closes line c s h s' (record { engine = t .engine; ending = Unwritten })
+  closes-unwritten = record { on = e .first; read = λ q. let i : _≡_ {A = ℕ} 0 1 = cc in omega arith }
 
-module _ {line c s s' : List ℕ} {h : Held} {t : Told} (v : Serving line c s h) (e : Ends line c s h s' t) where
-  pub served-whole : t .written ≡ true → Served s' (record { engine = t .engine; ending = Whole })
-  served-whole w = record { text = v .text; runs = e .all (v .text) (v .fed) w }
+pub finishes : {line c s s' : List ℕ} {t : Turn} {r : Outcome} → t .held .written ≡ true → t .next ≡ End → Closes line c s (t .held) s' r → Finishes line c s t s' r
+finishes w e k = record {
+  on = k .on;
+  read = λ q. k .read;
+  unread = λ n. absurd (n e);
+  cut = λ n. absurd (n e);
+  lost = λ o. absurd (let i : _≡_ {A = ℕ} 0 1 = cc in omega arith);
+}
 
-  pub served-first : Served s' (record { engine = t .engine; ending = Unwritten })
-  served-first = record { text = v .text; runs = e .first (v .text) (v .fed) }
+module _ {line c s : List ℕ} {t : Turn} where
+  finishes-cut : t .held .written ≡ true → t .next ≢ End → Finishes line c s t s (record { engine = t .held .engine; ending = Unread })
+  finishes-cut w n = record {
+    on = λ text f. record { to = f .to; unbroken = f .seen w .unbroken };
+    read = λ e. absurd (n e);
+    unread = λ o q. let i : _≡_ {A = ℕ} 0 1 = cc in omega arith;
+    cut = λ o. record { engine = refl; store = refl };
+    lost = λ o. record { engine = refl; store = refl };
+  }
+
+  pub finishes-more : t .held .written ≡ true → t .next ≡ More → Finishes line c s t s (record { engine = t .held .engine; ending = Unread })
+  finishes-more w e = finishes-cut w (λ q. let i : _≡_ {A = ℕ} 0 1 = cc in omega arith)
+
+  pub finishes-failed : t .held .written ≡ true → t .next ≡ Failed → Finishes line c s t s (record { engine = t .held .engine; ending = Unread })
+  finishes-failed w e = finishes-cut w (λ q. let i : _≡_ {A = ℕ} 0 1 = cc in omega arith)
+
+  pub finishes-unwritten : t .held .written ≡ false → Finishes line c s t s (record { engine = t .held .engine; ending = Unwritten })
+  finishes-unwritten w = record {
+    on = λ text f. first-to (f .to);
+    read = λ e q. let i : _≡_ {A = ℕ} 0 1 = cc in omega arith;
+    unread = λ o q. let i : _≡_ {A = ℕ} 0 1 = cc in omega arith;
+    cut = λ o. record { engine = refl; store = refl };
+    lost = λ o. record { engine = refl; store = refl };
+  }
+
+pub served : {line c s s' : List ℕ} {t : Turn} {r : Outcome} → Serving line c s (t .held) → Finishes line c s t s' r → Served s' r
+served v f = record { text = v .text; runs = f .on (v .text) (v .fed) }

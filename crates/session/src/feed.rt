@@ -64,12 +64,13 @@ pub fn last(line: &mut [u8], store: &mut [u8], cache: &mut [u64], held: Held) ->
 {
     let squeeze = held.squeeze;
     let engine = held.engine;
-    let written = held.written;
-    if written {
+    if held.written {
         if 0 < squeeze.length {
             return answer::answer(line, store, cache, squeeze, engine);
         }
+        let written = true;
         return Told { engine, written };
     }
+    let written = false;
     Told { engine, written }
 }

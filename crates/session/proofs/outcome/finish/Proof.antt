@@ -1,16 +1,21 @@
 use borrow.Author.Needs.{needs}
-use Rattle.session.specs.InputLaws.{served-unwritten, served-unread}
+use Rattle.session.specs.InputLaws.{finishes, finishes-more, finishes-failed, finishes-unwritten}
 use Rattle.session.proofs.outcome.finish.Statement.{statement}
 use Rattle.session.proofs.outcome.finish.Tie as tie
 
+returns : tie.Need-returns
+returns c = search (needs, finishes)
+
 returns-2 : tie.Need-returns-2
-returns-2 c = search (needs, served-unread)
+returns-2 c = search (needs, finishes-more)
 
 returns-3 : tie.Need-returns-3
-returns-3 c = search (needs, served-unwritten)
+returns-3 c = search (needs, finishes-failed)
+
+returns-4 : tie.Need-returns-4
+returns-4 c = search (needs, finishes-unwritten)
 
 pub finish-spec : {M : Type 1} → statement M
 finish-spec =
     tie.close
-    (tie.spec
-    (λ c. search needs) (λ c κs. search needs) (λ c. search needs) (λ c. search needs) (λ c. search needs) (λ c. search needs) returns-2 returns-3)
+    (tie.spec (λ c. search needs) (λ c κs. search needs) (λ c. search needs) (λ c. search needs) (λ c. search needs) returns (λ c. search needs) returns-2 (λ c. search needs) returns-3 returns-4)
