@@ -1,4 +1,5 @@
--- The input so far: its lines are answered, but for the bytes after its last LF; from the first answer that could not be written on, none is.
+-- The input so far: its lines are answered, but for the bytes after its last LF; from the first answer that could not
+-- be written on, none is.
 use mathlib.Core.Path.{_≡_}
 use mathlib.Core.Bool.{true, false}
 use mathlib.Core.List.{List, _++_}
@@ -15,8 +16,8 @@ use Rattle.session.specs.Answer.{Ready, Unbroken}
 use Rattle.session.specs.declared.answer.Told.{Told}
 use Rattle.session.specs.declared.feed.Held.{Held}
 
--- The engine stands where the tally's own run of these lines ends, over every output that has room for their answers: "Before a line, if fewer
--- than 16 output bytes remain, the run stops with 9", and a program's output has no end.
+-- The engine stands where the tally's own run of these lines ends, over every output that has room for their answers:
+-- "Before a line, if fewer than 16 output bytes remain, the run stops with 9", and a program's output has no end.
 pub record Ran (ls : List Bytes) (s : List ℕ) (e : Engine) : Type 0 where
   pub output : Bytes
   pub is : (room : ℕ) → length output + 16 ≤ room
@@ -29,7 +30,8 @@ pub record RanFirst (text : Bytes) (s : List ℕ) (e : Engine) : Type 0 where
   pub split : lines text ≡ done ++ others
   pub ran : Ran done s e
 
--- The lines that end before a place of the text were run, and no other. The bytes behind that place, and whatever comes after them, are other lines.
+-- The lines that end before a place of the text were run, and no other. The bytes behind that place, and whatever
+-- comes after them, are other lines.
 pub record RanTo (text : Bytes) (s : List ℕ) (e : Engine) : Type 0 where
   pub done : List Bytes
   pub behind : Bytes
@@ -50,7 +52,8 @@ pub record Seen (seen line : Bytes) (q : Squeeze) : Type 0 where
 abbrev pub Keeps : List ℕ → List ℕ → List ℕ → Held → Type 0
 Keeps line c s h = Ready line c s (h .squeeze) (h .engine)
 
--- A text is taken in. While every answer is written, what is behind the lines that were run is the line that has not ended.
+-- A text is taken in. While every answer is written, what is behind the lines that were run is the line that has not
+-- ended.
 pub record Fed (text line c s : List ℕ) (h : Held) : Type 0 where
   pub keeps : Keeps line c s h
   pub to : RanTo text s (h .engine)
@@ -63,7 +66,8 @@ pub record Takes (part line c s : List ℕ) (h : Held) (line' c' s' : List ℕ) 
   pub stays : h .written ≡ false → r ≡ h
   pub store : h .written ≡ false → s' ≡ s
 
--- The input has ended. "A text is split at LF; a last part without LF counts unless empty": all its lines are run, or as many as came before a failed write.
+-- The input has ended. "A text is split at LF; a last part without LF counts unless empty": all its lines are run, or
+-- as many as came before a failed write.
 pub record Ends (line c s : List ℕ) (h : Held) (s' : List ℕ) (r : Told) : Type 0 where
   pub all : (text : Bytes) → Fed text line c s h → r .written ≡ true → Ran (lines text) s' (r .engine)
   pub first : (text : Bytes) → Fed text line c s h → RanFirst text s' (r .engine)

@@ -1,9 +1,9 @@
 -- Taking in bytes one after the other, until the input ends.
-use mathlib.Core.Path.{_≡_, refl, ap, sym, subst, _∙_}
+use mathlib.Core.Path.{_≡_, refl, ap, sym, _∙_}
 use mathlib.Core.Logic.{_≢_}
 use mathlib.Core.Bool.{Bool, true, false, cond}
 use mathlib.Core.List.{List, [], _∷_, _++_, append-nil, append-assoc}
-use Prim.Native.Nat.{ℕ, suc, _+_, _≤_, _<_}
+use Prim.Native.Nat.{ℕ, _+_, _≤_, _<_}
 use native.Mathlib.Numerals.{add-one}
 use native.Mathlib.Omega.{arith}
 use borrow.Author.Tests.{ne-eqb, le-leb}
@@ -21,7 +21,7 @@ use Rattle.text.specs.declared.squeeze.Squeeze.{Squeeze}
 use Rattle.session.specs.Answer.{Unbroken, none, byte, replyTo, Answered}
 use Rattle.session.specs.SessionLaws.{run-append}
 use Rattle.session.specs.AnswerLaws.{line-first}
-use Rattle.session.specs.Feed.{Ran, RanFirst, RanTo, Seen, Keeps, Fed, Takes, Ends}
+use Rattle.session.specs.Feed.{Ran, RanFirst, RanTo, Keeps, Fed, Takes, Ends}
 use Rattle.session.specs.declared.answer.Told.{Told}
 use Rattle.session.specs.declared.feed.Held.{Held}
 

@@ -1,4 +1,5 @@
--- Reading until the input ends: which bytes were read no contract can say, so they are any; what was done with them is said.
+-- Reading until the input ends: which bytes were read no contract can say, so they are any; what was done with them
+-- is said.
 use mathlib.Core.Path.{_≡_}
 use mathlib.Core.Logic.{_≢_}
 use mathlib.Core.Bool.{false}
@@ -34,7 +35,8 @@ pub record Serving (line c s : List ℕ) (h : Held) : Type 0 where
   pub text : Bytes
   pub fed : Fed text line c s h
 
--- What was run of the input: all its lines; where reading failed, the lines that ended; where writing failed, the first lines.
+-- What was run of the input: all its lines; where reading failed, the lines that ended; where writing failed, the
+-- first lines.
 abbrev pub Runs : Ending → Bytes → List ℕ → Engine → Type 0
 Runs Whole text s e = Ran (lines text) s e
 Runs Unread text s e = RanWhole text s e
@@ -50,7 +52,8 @@ pub record Still (s : List ℕ) (h : Held) (s' : List ℕ) (r : Outcome) : Type 
   pub engine : r .engine ≡ h .engine
   pub store : s' ≡ s
 
--- No more is read. Only an input that has ended is taken for a whole one; where it has not, or where a write has failed, nothing more is run.
+-- No more is read. Only an input that has ended is taken for a whole one; where it has not, or where a write has
+-- failed, nothing more is run.
 pub record Finishes (line c s : List ℕ) (t : Turn) (s' : List ℕ) (r : Outcome) : Type 0 where
   pub on : (text : Bytes) → Fed text line c s (t .held) → Runs (r .ending) text s' (r .engine)
   pub read : t .next ≡ End → r .ending ≢ Unread

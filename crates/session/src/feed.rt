@@ -1,4 +1,5 @@
-// An input's lines, from parts that end anywhere. After the first answer that could not be written no line is run: answer k belongs to line k.
+// An input's lines, from parts that end anywhere. After the first answer that could not be written no line is run:
+// answer k belongs to line k.
 use crate::answer;
 use crate::answer::Told;
 use text::engine::Engine;

@@ -7,7 +7,8 @@ use text::engine::Engine;
 ghost use Rattle.session.specs.Feed.{Keeps};
 ghost use Rattle.session.specs.Input.{Closes, Finishes};
 
-// Every line was run and its answer written; reading failed, and the line that it cut was not run; or writing failed, and no line after that was run.
+// Every line was run and its answer written; reading failed, and the line that it cut was not run; or writing failed,
+// and no line after that was run.
 pub enum Ending {
     Whole,
     Unread,

@@ -13,7 +13,8 @@ use Rattle.verdict.specs.declared.input.Turn.{Turn}
 use Rattle.verdict.specs.declared.ending.Ending.{Ending}
 use Rattle.verdict.specs.declared.ending.Ending.the-variants.{Judged, Longer, Unread}
 
--- What came fits, and the output is document 01's answer to it; or it does not fit, or reading failed, and nothing is answered.
+-- What came fits, and the output is document 01's answer to it; or it does not fit, or reading failed, and nothing is
+-- answered.
 abbrev pub Ends : Ending → Bytes → ℕ → List ℕ → Bytes → Bytes → Type 0
 Ends (Judged v) came room s o o' = (length came ≤ room) × Gives came s o o' v
 Ends Longer came room s o o' = (room < length came) × (o' ≡ o)

@@ -1,4 +1,5 @@
--- The bytes that came, in a buffer. Which bytes a read puts into its own buffer no contract can say; that these are kept, all and in order, is said.
+-- The bytes that came, in a buffer. Which bytes a read puts into its own buffer no contract can say; that these are
+-- kept, all and in order, is said.
 use mathlib.Core.Path.{_≡_}
 use mathlib.Core.List.{_++_}
 use Prim.Native.Nat.{ℕ, _+_, min}
@@ -8,7 +9,8 @@ use Rattle.stdin.specs.declared.Came.{Came}
 use Rattle.text.specs.Text.{Bytes}
 use Rattle.verdict.specs.declared.input.Turn.{Turn}
 
--- The bytes that came stand at the buffer's front, in order, as many as fit; `len` is how many came, or one more than fit where more came.
+-- The bytes that came stand at the buffer's front, in order, as many as fit; `len` is how many came, or one more than
+-- fit where more came.
 pub record Holds (came text : Bytes) (len : ℕ) : Type 0 where
   pub kept : take len text ≡ take (length text) came
   pub count : len ≡ min (length came) (length text + 1)

@@ -1,13 +1,13 @@
 -- Taking in bytes one after the other.
-use mathlib.Core.Path.{_≡_, refl, sym, _∙_}
-use mathlib.Core.List.{List, [], _∷_, _++_, append-nil, append-assoc}
-use Prim.Native.Nat.{ℕ, suc, _+_, _≤_, _<_, min}
+use mathlib.Core.Path.{_≡_, sym, _∙_}
+use mathlib.Core.List.{[], _∷_, _++_, append-nil, append-assoc}
+use Prim.Native.Nat.{ℕ, _+_, _≤_, _<_}
 use native.Mathlib.Numerals.{add-one}
 use native.Mathlib.Omega.{arith}
 use lib.ListN.{length, take, set, getD, length-append, length-set}
 use lib.Seq.{take-suc, take-all, take-nil, take-suc-set, take-append-le}
 use Rattle.text.specs.Text.{Bytes}
-use Rattle.verdict.specs.Input.{Holds, Takes, Reads, Received}
+use Rattle.verdict.specs.Input.{Takes, Reads, Received}
 use Rattle.verdict.specs.declared.input.Turn.{Turn}
 
 -- one byte

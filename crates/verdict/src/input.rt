@@ -60,7 +60,8 @@ fn goes_on(next: Next) -> bool {
     }
 }
 
-// Reads to the input's end. A proved loop has to end, and nothing says that an input does. So it counts down from a number that no run uses up.
+// Reads to the input's end. A proved loop has to end, and nothing says that an input does. So it counts down from a
+// number that no run uses up.
 pub fn receive(text: &mut [u8]) -> Turn
     ensures { λ r. ⌜ Received (now (text .exit)) (r .len) ⌝ }
 {
