@@ -19,7 +19,7 @@ use Rattle.text.specs.Squeeze.{squeezedFrom, squeezed, Begun, Pushed}
 use Rattle.text.specs.declared.engine.Engine.{Engine}
 use Rattle.text.specs.declared.squeeze.Squeeze.{Squeeze}
 use Rattle.session.specs.Answer.{Unbroken, none, byte, replyTo, Answered}
-use Rattle.session.specs.SessionLaws.{run-append}
+use Rattle.text.specs.SessionLaws.{run-append}
 use Rattle.session.specs.AnswerLaws.{line-first}
 use Rattle.session.specs.Feed.{Ran, RanFirst, RanTo, Keeps, Fed, Takes, Ends}
 use Rattle.session.specs.declared.answer.Told.{Told}

@@ -3,7 +3,6 @@ pub mod Answer
 pub mod Feed
 pub mod Input
 -- what the proofs use of it
-pub mod SessionLaws
 pub mod AnswerLaws
 pub mod FeedLaws
 pub mod InputLaws
