@@ -3,7 +3,7 @@
 use mathlib.Core.Path.{_≡_}
 use mathlib.Core.Bool.{true, false}
 use mathlib.Core.List.{List, _++_}
-use Prim.Native.Nat.{ℕ, _+_, _≤_}
+use Prim.Native.Nat.{ℕ, _+_, _≤_, _<_}
 use lib.ListN.{length}
 use Rattle.diagram.specs.Node.{capacity}
 use Rattle.text.specs.Text.{Bytes, lines}
@@ -52,24 +52,28 @@ pub record Seen (seen line : Bytes) (q : Squeeze) : Type 0 where
 abbrev pub Keeps : List ℕ → List ℕ → List ℕ → Held → Type 0
 Keeps line c s h = Ready line c s (h .squeeze) (h .engine)
 
--- A text is taken in. While every answer is written, what is behind the lines that were run is the line that has not
--- ended.
-pub record Fed (text line c s : List ℕ) (h : Held) : Type 0 where
+-- A text is taken in, and n of its lines were run. While every answer is written, what is behind them is the line that
+-- has not ended.
+pub record Fed (text : Bytes) (n : ℕ) (line c s : List ℕ) (h : Held) : Type 0 where
   pub keeps : Keeps line c s h
   pub to : RanTo text s (h .engine)
+  pub count : length (to .done) ≡ n
   pub seen : h .written ≡ true → Seen (to .behind) line (h .squeeze)
+
+-- More is taken in. The line whose answer could not be written was run.
+pub record Grows (text : Bytes) (n : ℕ) (h : Held) (line' c' s' : List ℕ) (r : Held) : Type 0 where
+  pub lines : ℕ
+  pub fed : Fed text lines line' c' s' r
+  pub more : n ≤ lines
+  pub lost : h .written ≡ true → r .written ≡ false → n < lines
 
 -- The bytes that come next are taken in; after a failed write nothing is run any more.
 pub record Takes (part line c s : List ℕ) (h : Held) (line' c' s' : List ℕ) (r : Held) : Type 0 where
   pub keeps : Keeps line' c' s' r
-  pub on : (text : Bytes) → Fed text line c s h → Fed (text ++ part) line' c' s' r
+  pub on : (text : Bytes) (n : ℕ) → Fed text n line c s h → Grows (text ++ part) n h line' c' s' r
   pub stays : h .written ≡ false → r ≡ h
   pub store : h .written ≡ false → s' ≡ s
 
--- The input has ended. "A text is split at LF; a last part without LF counts unless empty": all its lines are run, or
--- as many as came before a failed write.
+-- The input has ended, and all its lines are run: "A text is split at LF; a last part without LF counts unless empty".
 pub record Ends (line c s : List ℕ) (h : Held) (s' : List ℕ) (r : Told) : Type 0 where
-  pub all : (text : Bytes) → Fed text line c s h → r .written ≡ true → Ran (lines text) s' (r .engine)
-  pub first : (text : Bytes) → Fed text line c s h → RanFirst text s' (r .engine)
-  pub stays : h .written ≡ false → r .engine ≡ h .engine
-  pub store : h .written ≡ false → s' ≡ s
+  pub all : (text : Bytes) (n : ℕ) → Fed text n line c s h → Ran (lines text) s' (r .engine)

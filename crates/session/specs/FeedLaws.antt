@@ -21,7 +21,7 @@ use Rattle.text.specs.declared.squeeze.Squeeze.{Squeeze}
 use Rattle.session.specs.Answer.{Unbroken, none, byte, replyTo, Answered}
 use Rattle.text.specs.SessionLaws.{run-append}
 use Rattle.session.specs.AnswerLaws.{line-first}
-use Rattle.session.specs.Feed.{Ran, RanFirst, RanTo, Keeps, Fed, Takes, Ends}
+use Rattle.session.specs.Feed.{Ran, RanFirst, RanTo, Keeps, Takes, Ends}
 use Rattle.session.specs.declared.answer.Told.{Told}
 use Rattle.session.specs.declared.feed.Held.{Held}
 
@@ -87,43 +87,55 @@ module _ {line c s : List ℕ} {h : Held} where
   pub takes-end : {line' c' s' : List ℕ} {b : ℕ} {q : Squeeze} {t : Told} → h .written ≡ true → b ≡ LF → length line' ≡ length line → length s' ≡ length s
       → Keeps line c s h → Answered line (h .squeeze) (h .engine) s c' s' (t .engine) → Begun q
       → Takes (b ∷ []) line c s h line' c' s' (record { squeeze = q; engine = t .engine; written = t .written })
-  takes-end {line'} {c'} {s'} {b} {q} {t} w z m n k a g = rw z (record {
+  takes-end {line'} {c'} {s'} {b} {q} {t} w z m k r a g = rw z (record {
     keeps = after;
-    on = λ text f.
+    on = λ text n f.
         let v = f .seen w in
         record {
-          keeps = after;
-          to = record {
-            done = f .to .done ++ (f .to .behind ∷ []);
-            behind = [];
-            split = λ rest.
-                rw (
-                  append-assoc text (LF ∷ []) rest,
-                  f .to .split (LF ∷ rest),
-                  line-first rest (v .unbroken),
-                  append-assoc (f .to .done) (f .to .behind ∷ []) (lines rest),
-                );
-            ran = ran-more (f .to .behind) n (f .to .ran) (a .tally (f .to .behind) (v .unbroken) (v .squeezing));
+          lines = n + 1;
+          fed = record {
+            keeps = after;
+            to = record {
+              done = f .to .done ++ (f .to .behind ∷ []);
+              behind = [];
+              split = λ rest.
+                  rw (
+                    append-assoc text (LF ∷ []) rest,
+                    f .to .split (LF ∷ rest),
+                    line-first rest (v .unbroken),
+                    append-assoc (f .to .done) (f .to .behind ∷ []) (lines rest),
+                  );
+              ran = ran-more (f .to .behind) k (f .to .ran) (a .tally (f .to .behind) (v .unbroken) (v .squeezing));
+            };
+            count = length-append (f .to .done) (f .to .behind ∷ []) ∙ (rw (f .count));
+            seen = λ o. record { unbroken = none; squeezing = g .start line' };
           };
-          seen = λ o. record { unbroken = none; squeezing = g .start line' };
+          more = omega arith;
+          lost = λ o p. omega arith;
         };
     stays = λ o. absurd (let i : _≡_ {A = ℕ} 0 1 = cc in omega arith);
     store = λ o. absurd (let i : _≡_ {A = ℕ} 0 1 = cc in omega arith);
   })
     where
       after : Keeps line' c' s' (record { squeeze = q; engine = t .engine; written = t .written })
-      after = record { room = omega (arith, k .room, m); fits = g .fits; standing = a .standing }
+      after = record { room = omega (arith, r .room, m); fits = g .fits; standing = a .standing }
 
   pub takes-byte : {line' : List ℕ} {b : ℕ} {q : Squeeze} → h .written ≡ true → b ≢ LF → Keeps line c s h → Pushed line (h .squeeze) b line' q
       → Takes (b ∷ []) line c s h line' c s (record { squeeze = q; engine = h .engine; written = h .written })
   takes-byte {line'} {b} {q} w z k p = record {
     keeps = after;
-    on = λ text f.
+    on = λ text n f.
         let v = f .seen w in
         record {
-          keeps = after;
-          to = to-more b (f .to);
-          seen = λ o. record { unbroken = unbroken-more (v .unbroken) z; squeezing = p .on (f .to .behind) (v .squeezing) };
+          lines = n;
+          fed = record {
+            keeps = after;
+            to = to-more b (f .to);
+            count = f .count;
+            seen = λ o. record { unbroken = unbroken-more (v .unbroken) z; squeezing = p .on (f .to .behind) (v .squeezing) };
+          };
+          more = omega arith;
+          lost = λ o q. absurd (let i : _≡_ {A = ℕ} 0 1 = cc in omega arith);
         };
     stays = λ o. absurd (let i : _≡_ {A = ℕ} 0 1 = cc in omega arith);
     store = λ o. refl;
@@ -136,7 +148,17 @@ module _ {line c s : List ℕ} {h : Held} where
   pub takes-lost : {b : ℕ} → h .written ≡ false → Keeps line c s h → Takes (b ∷ []) line c s h line c s h
   takes-lost {b} w k = record {
     keeps = k;
-    on = λ text f. record { keeps = k; to = to-more b (f .to); seen = λ o. absurd (let i : _≡_ {A = ℕ} 0 1 = cc in omega arith) };
+    on = λ text n f. record {
+      lines = n;
+      fed = record {
+        keeps = k;
+        to = to-more b (f .to);
+        count = f .count;
+        seen = λ o. absurd (let i : _≡_ {A = ℕ} 0 1 = cc in omega arith);
+      };
+      more = omega arith;
+      lost = λ o q. absurd (let i : _≡_ {A = ℕ} 0 1 = cc in omega arith);
+    };
     stays = λ o. refl;
     store = λ o. refl;
   }
@@ -149,7 +171,17 @@ pub record Feeding (part line₀ c₀ s₀ : List ℕ) (h₀ : Held) (i : ℕ) (
 pub feeding-start : {part line c s : List ℕ} {h : Held} → Keeps line c s h → Feeding part line c s h 0 line c s h
 feeding-start k = record {
   within = omega arith;
-  takes = record { keeps = k; on = λ text f. rw (append-nil text) f; stays = λ o. refl; store = λ o. refl };
+  takes = record {
+    keeps = k;
+    on = λ text n f. record {
+      lines = n;
+      fed = rw (append-nil text) f;
+      more = omega arith;
+      lost = λ o q. absurd (let i : _≡_ {A = ℕ} 0 1 = cc in omega arith);
+    };
+    stays = λ o. refl;
+    store = λ o. refl;
+  };
 }
 
 module _ {part line₀ c₀ s₀ : List ℕ} {h₀ : Held} {i : ℕ} {line c s : List ℕ} {h : Held} (g : Feeding part line₀ c₀ s₀ h₀ i line c s h) where
@@ -159,13 +191,24 @@ module _ {part line₀ c₀ s₀ : List ℕ} {h₀ : Held} {i : ℕ} {line c s :
     within = omega arith;
     takes = record {
       keeps = b .keeps;
-      on = λ text f.
-          rw (add-one i, take-suc part i 0 l, ← append-assoc text (take i part) (getD part i 0 ∷ [])) (b .on (text ++ take i part) (g .takes .on text f));
+      on = λ text n f.
+          let x = g .takes .on text n f in
+          let y = b .on (text ++ take i part) (x .lines) (x .fed) in
+          record {
+            lines = y .lines;
+            fed = rw (add-one i, take-suc part i 0 l, ← append-assoc text (take i part) (getD part i 0 ∷ [])) (y .fed);
+            more = omega (arith, x .more, y .more);
+            lost = λ o q. more-lost (h .written) refl (x .lost o) (λ w. y .lost w q) (x .more) (y .more);
+          };
       stays = λ o. b .stays (still o) ∙ g .takes .stays o;
       store = λ o. b .store (still o) ∙ g .takes .store o;
     };
   }
     where
+      more-lost : {n m k : ℕ} (w : Bool) → h .written ≡ w → (h .written ≡ false → n < m) → (h .written ≡ true → m < k) → n ≤ m → m ≤ k → n < k
+      more-lost true e p q x y = omega (arith, q e)
+      more-lost false e p q x y = omega (arith, p e)
+
       still : h₀ .written ≡ false → h .written ≡ false
       still o = ap (λ (x : Held). x .written) (g .takes .stays o) ∙ o
 
@@ -182,42 +225,27 @@ first-to {text} f = record {
   ran = f .ran;
 }
 
-first-all : {text : Bytes} {s : List ℕ} {e : Engine} → Ran (lines text) s e → RanFirst text s e
+pub first-all : {text : Bytes} {s : List ℕ} {e : Engine} → Ran (lines text) s e → RanFirst text s e
 first-all {text} r = record { done = lines text; others = []; split = sym (append-nil (lines text)); ran = r }
 
 module _ {line c s : List ℕ} {h : Held} where
-  pub ends-lost : h .written ≡ false → Ends line c s h s (record { engine = h .engine; written = false })
-  ends-lost w = record {
-    all = λ text f o. absurd (let i : _≡_ {A = ℕ} 0 1 = cc in omega arith);
-    first = λ text f. first-to (f .to);
-    stays = λ o. refl;
-    store = λ o. refl;
-  }
-
   pub ends-whole : h .written ≡ true → h .squeeze .length ≤ 0 → Ends line c s h s (record { engine = h .engine; written = true })
-  ends-whole w z = record { all = λ text f o. whole text f; first = λ text f. first-all (whole text f); stays = λ o. refl; store = λ o. refl }
-    where
-      whole : (text : Bytes) → Fed text line c s h → Ran (lines text) s (h .engine)
-      whole text f =
-          let v = f .seen w in
-          let k : length (squeezed (f .to .behind)) ≤ 0 = rw (← v .squeezing .kept) (omega (arith, length-take-le (h .squeeze .length) line (omega arith))) in
-          let e : lines text ≡ f .to .done = (rw (append-nil text, append-nil (f .to .behind), line-none (f .to .behind) k) at (f .to .split [])) ∙ append-nil (f .to .done) in
-          rw e (f .to .ran)
+  ends-whole w z = record {
+    all = λ text n f.
+        let v = f .seen w in
+        let k : length (squeezed (f .to .behind)) ≤ 0 = rw (← v .squeezing .kept) (omega (arith, length-take-le (h .squeeze .length) line (omega arith))) in
+        let e : lines text ≡ f .to .done = (rw (append-nil text, append-nil (f .to .behind), line-none (f .to .behind) k) at (f .to .split [])) ∙ append-nil (f .to .done) in
+        rw e (f .to .ran);
+  }
 
   pub ends-line : {c' s' : List ℕ} {t : Told} → h .written ≡ true → 0 < h .squeeze .length → length s' ≡ length s → Keeps line c s h
       → Answered line (h .squeeze) (h .engine) s c' s' (t .engine) → Ends line c s h s' t
-  ends-line {s' = s'} {t} w z n k a = record {
-    all = λ text f o. whole text f;
-    first = λ text f. first-all (whole text f);
-    stays = λ o. absurd (let i : _≡_ {A = ℕ} 0 1 = cc in omega arith);
-    store = λ o. absurd (let i : _≡_ {A = ℕ} 0 1 = cc in omega arith);
+  ends-line w z n k a = record {
+    all = λ text m f.
+        let v = f .seen w in
+        let q = k .fits in
+        let b : length (take (h .squeeze .length) line) ≡ h .squeeze .length = length-take-le _ line (omega (arith, q .tabs, q .width, q .short, k .room)) in
+        let o : 0 < length (squeezed (f .to .behind)) = rw (← v .squeezing .kept) (omega arith) in
+        let e : lines text ≡ f .to .done ++ (f .to .behind ∷ []) = rw (append-nil text, append-nil (f .to .behind), line-kept (v .unbroken) o) at (f .to .split []) in
+        rw e (ran-more (f .to .behind) n (f .to .ran) (a .tally (f .to .behind) (v .unbroken) (v .squeezing)));
   }
-    where
-      whole : (text : Bytes) → Fed text line c s h → Ran (lines text) s' (t .engine)
-      whole text f =
-          let v = f .seen w in
-          let q = k .fits in
-          let m : length (take (h .squeeze .length) line) ≡ h .squeeze .length = length-take-le _ line (omega (arith, q .tabs, q .width, q .short, k .room)) in
-          let o : 0 < length (squeezed (f .to .behind)) = rw (← v .squeezing .kept) (omega arith) in
-          let e : lines text ≡ f .to .done ++ (f .to .behind ∷ []) = rw (append-nil text, append-nil (f .to .behind), line-kept (v .unbroken) o) at (f .to .split []) in
-          rw e (ran-more (f .to .behind) n (f .to .ran) (a .tally (f .to .behind) (v .unbroken) (v .squeezing)))

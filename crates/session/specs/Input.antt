@@ -2,7 +2,7 @@
 -- is said.
 use mathlib.Core.Path.{_≡_}
 use mathlib.Core.Logic.{_≢_}
-use mathlib.Core.Bool.{false}
+use mathlib.Core.Bool.{true, false}
 use mathlib.Core.List.{List}
 use Prim.Native.Nat.{ℕ}
 use lib.ListN.{length, take}
@@ -33,7 +33,8 @@ pub record Reads (line c s : List ℕ) (h : Held) (line' c' s' : List ℕ) (t : 
 -- an input is taken in
 pub record Serving (line c s : List ℕ) (h : Held) : Type 0 where
   pub text : Bytes
-  pub fed : Fed text line c s h
+  pub lines : ℕ
+  pub fed : Fed text lines line c s h
 
 -- What was run of the input: all its lines; where reading failed, the lines that ended; where writing failed, the
 -- first lines.
@@ -42,9 +43,10 @@ Runs Whole text s e = Ran (lines text) s e
 Runs Unread text s e = RanWhole text s e
 Runs Unwritten text s e = RanFirst text s e
 
--- the input has ended
+-- the input has ended, and every line was run, its last one's answer written or not
 pub record Closes (line c s : List ℕ) (h : Held) (s' : List ℕ) (r : Outcome) : Type 0 where
-  pub on : (text : Bytes) → Fed text line c s h → Runs (r .ending) text s' (r .engine)
+  pub on : (text : Bytes) (n : ℕ) → Fed text n line c s h → Runs (r .ending) text s' (r .engine)
+  pub all : (text : Bytes) (n : ℕ) → Fed text n line c s h → Ran (lines text) s' (r .engine)
   pub read : r .ending ≢ Unread
 
 -- nothing more was run
@@ -55,7 +57,8 @@ pub record Still (s : List ℕ) (h : Held) (s' : List ℕ) (r : Outcome) : Type 
 -- No more is read. Only an input that has ended is taken for a whole one; where it has not, or where a write has
 -- failed, nothing more is run.
 pub record Finishes (line c s : List ℕ) (t : Turn) (s' : List ℕ) (r : Outcome) : Type 0 where
-  pub on : (text : Bytes) → Fed text line c s (t .held) → Runs (r .ending) text s' (r .engine)
+  pub on : (text : Bytes) (n : ℕ) → Fed text n line c s (t .held) → Runs (r .ending) text s' (r .engine)
+  pub all : t .next ≡ End → t .held .written ≡ true → (text : Bytes) (n : ℕ) → Fed text n line c s (t .held) → Ran (lines text) s' (r .engine)
   pub read : t .next ≡ End → r .ending ≢ Unread
   pub unread : t .next ≢ End → r .ending ≢ Whole
   pub cut : t .next ≢ End → Still s (t .held) s' r

@@ -13,7 +13,7 @@ use Rattle.text.specs.declared.engine.Engine.{Engine}
 use Rattle.text.specs.declared.squeeze.Squeeze.{Squeeze}
 use Rattle.session.specs.Answer.{none}
 use Rattle.session.specs.Feed.{Ends}
-use Rattle.session.specs.FeedLaws.{ran-none, first-to}
+use Rattle.session.specs.FeedLaws.{ran-none, first-to, first-all}
 use Rattle.session.specs.Input.{Reads, Serving, Closes, Finishes, Served}
 use Rattle.session.specs.declared.answer.Told.{Told}
 use Rattle.session.specs.declared.feed.Held.{Held}
@@ -27,28 +27,37 @@ pub serving-start : {line c s : List ℕ} {q : Squeeze} {e : Engine} → 64 ≤ 
     → Serving line c s (record { squeeze = q; engine = e; written = true })
 serving-start {line} h b a = record {
   text = [];
+  lines = 0;
   fed = record {
     keeps = record { room = h; fits = b .fits; standing = a .standing };
     to = record { done = []; behind = []; split = λ rest. refl; ran = ran-none a };
+    count = refl;
     seen = λ o. record { unbroken = none; squeezing = b .start line };
   };
 }
 
 pub serving-on : {line c s line' c' s' : List ℕ} {h : Held} {t : Turn} → Serving line c s h → Reads line c s h line' c' s' t → Serving line' c' s' (t .held)
-serving-on v w = record { text = v .text ++ take (w .came .count) (w .part); fed = w .took .takes .on (v .text) (v .fed) }
+serving-on v w =
+    let z = w .took .takes .on (v .text) (v .lines) (v .fed) in
+    record { text = v .text ++ take (w .came .count) (w .part); lines = z .lines; fed = z .fed }
 
 -- the end
 
 module _ {line c s s' : List ℕ} {h : Held} {t : Told} (e : Ends line c s h s' t) where
-  pub closes-whole : t .written ≡ true → Closes line c s h s' (record { engine = t .engine; ending = Whole })
-  closes-whole w = record { on = λ text f. e .all text f w; read = λ q. let i : _≡_ {A = ℕ} 0 1 = cc in omega arith }
+  pub closes-whole : Closes line c s h s' (record { engine = t .engine; ending = Whole })
+  closes-whole = record { on = e .all; all = e .all; read = λ q. let i : _≡_ {A = ℕ} 0 1 = cc in omega arith }
 
   pub closes-unwritten : Closes line c s h s' (record { engine = t .engine; ending = Unwritten })
-  closes-unwritten = record { on = e .first; read = λ q. let i : _≡_ {A = ℕ} 0 1 = cc in omega arith }
+  closes-unwritten = record {
+    on = λ text n f. first-all (e .all text n f);
+    all = e .all;
+    read = λ q. let i : _≡_ {A = ℕ} 0 1 = cc in omega arith;
+  }
 
 pub finishes : {line c s s' : List ℕ} {t : Turn} {r : Outcome} → t .held .written ≡ true → t .next ≡ End → Closes line c s (t .held) s' r → Finishes line c s t s' r
 finishes w e k = record {
   on = k .on;
+  all = λ q o. k .all;
   read = λ q. k .read;
   unread = λ n. absurd (n e);
   cut = λ n. absurd (n e);
@@ -58,7 +67,8 @@ finishes w e k = record {
 module _ {line c s : List ℕ} {t : Turn} where
   finishes-cut : t .held .written ≡ true → t .next ≢ End → Finishes line c s t s (record { engine = t .held .engine; ending = Unread })
   finishes-cut w n = record {
-    on = λ text f. record { to = f .to; unbroken = f .seen w .unbroken };
+    on = λ text m f. record { to = f .to; unbroken = f .seen w .unbroken };
+    all = λ e o. absurd (n e);
     read = λ e. absurd (n e);
     unread = λ o q. let i : _≡_ {A = ℕ} 0 1 = cc in omega arith;
     cut = λ o. record { engine = refl; store = refl };
@@ -73,7 +83,8 @@ module _ {line c s : List ℕ} {t : Turn} where
 
   pub finishes-unwritten : t .held .written ≡ false → Finishes line c s t s (record { engine = t .held .engine; ending = Unwritten })
   finishes-unwritten w = record {
-    on = λ text f. first-to (f .to);
+    on = λ text m f. first-to (f .to);
+    all = λ e o. absurd (let i : _≡_ {A = ℕ} 0 1 = cc in omega arith);
     read = λ e q. let i : _≡_ {A = ℕ} 0 1 = cc in omega arith;
     unread = λ o q. let i : _≡_ {A = ℕ} 0 1 = cc in omega arith;
     cut = λ o. record { engine = refl; store = refl };
@@ -81,4 +92,4 @@ module _ {line c s : List ℕ} {t : Turn} where
   }
 
 pub served : {line c s s' : List ℕ} {t : Turn} {r : Outcome} → Serving line c s (t .held) → Finishes line c s t s' r → Served s' r
-served v f = record { text = v .text; runs = f .on (v .text) (v .fed) }
+served v f = record { text = v .text; runs = f .on (v .text) (v .lines) (v .fed) }

@@ -5,6 +5,8 @@ use crate::answer::Told;
 use text::engine::Engine;
 use text::squeeze;
 use text::squeeze::Squeeze;
+ghost use mathlib.Core.Path.{_≡_};
+ghost use mathlib.Core.Bool.{true};
 ghost use mathlib.Core.List.{[], _∷_};
 ghost use Rattle.session.specs.Feed.{Keeps, Takes, Ends};
 
@@ -60,18 +62,14 @@ pub fn feed(line: &mut [u8], store: &mut [u8], cache: &mut [u64], held: Held, pa
 
 // "a last part without LF counts unless empty"; of a line that has a byte, one is kept.
 pub fn last(line: &mut [u8], store: &mut [u8], cache: &mut [u64], held: Held) -> Told
-    requires { ⌜ Keeps (now line) (now cache) (now store) held ⌝ }
+    requires { ⌜ Keeps (now line) (now cache) (now store) held × (held .written ≡ true) ⌝ }
     ensures { λ r. ⌜ Ends (now (line .entry)) (now (cache .entry)) (now (store .entry)) held (now (store .exit)) r ⌝ }
 {
     let squeeze = held.squeeze;
     let engine = held.engine;
-    if held.written {
-        if 0 < squeeze.length {
-            return answer::answer(line, store, cache, squeeze, engine);
-        }
-        let written = true;
-        return Told { engine, written };
+    if 0 < squeeze.length {
+        return answer::answer(line, store, cache, squeeze, engine);
     }
-    let written = false;
+    let written = true;
     Told { engine, written }
 }

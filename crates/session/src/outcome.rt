@@ -4,6 +4,8 @@ use crate::feed::Held;
 use crate::input::Turn;
 use stdin::Next;
 use text::engine::Engine;
+ghost use mathlib.Core.Path.{_≡_};
+ghost use mathlib.Core.Bool.{true};
 ghost use Rattle.session.specs.Feed.{Keeps};
 ghost use Rattle.session.specs.Input.{Closes, Finishes};
 
@@ -22,7 +24,7 @@ pub struct Outcome {
 
 // The input has ended, and with it its last line.
 fn close(line: &mut [u8], store: &mut [u8], cache: &mut [u64], held: Held) -> Outcome
-    requires { ⌜ Keeps (now line) (now cache) (now store) held ⌝ }
+    requires { ⌜ Keeps (now line) (now cache) (now store) held × (held .written ≡ true) ⌝ }
     ensures { λ r. ⌜ Closes (now (line .entry)) (now (cache .entry)) (now (store .entry)) held (now (store .exit)) r ⌝ }
 {
     let told = feed::last(line, store, cache, held);
