@@ -105,8 +105,9 @@ pub record Entry (s : List ℕ) (st : State) (k : Key) (e : Edge) : Type 0 where
   pub known : (T : Tensor indices) × Writes T (asked s st k)
   pub is : asked s st k (setOf s st) ≡ (tensorOf s st e, setOf s st)
 
--- "A remembered result made before a collection, or by an earlier call that was refused, is never used. What the memory for this holds
--- is free." Every entry of the present epoch is stable, and none is of a later epoch; collections and refused calls step the epoch.
+-- "A remembered result made before a collection, or by an earlier call that was refused, is never used. What the memory
+-- for this holds is free." Every entry of the present epoch is stable, and none is of a later epoch; a collection and a
+-- call refused as full step the epoch.
 pub record Remembers (c s : List ℕ) (st : State) : Type 0 where
   pub past : Past c (st .epoch)
   pub entries : (k : Key) (e : Edge) → Holds c (st .epoch) k e → Entry s st k e

@@ -68,12 +68,6 @@ first-set g i [] p = absurd (omega arith)
 first-set g zero (r ∷ rs) p = refl
 first-set g (suc i) (r ∷ rs) p = ap (λ l. renumber g r ∷ l) (first-set g i rs (omega arith))
 
-pub first-length : (g : ℕ → ℕ) (i : ℕ) (rs : List Register) → length (renumberFirst g i rs) ≡ length rs
-unfolding renumberFirst
-first-length g zero rs = refl
-first-length g (suc i) [] = refl
-first-length g (suc i) (r ∷ rs) = ap suc (first-length g i rs)
-
 pub renumber-on : (g : ℕ → ℕ) (i : ℕ) (rs l : List Register) (x : Register) → i < length rs → l ≡ renumberFirst g i rs → x ≡ renumber g (getD l i emptyRegister)
     → set l i x ≡ renumberFirst g (i + 1) rs
 renumber-on g i rs l x p e q =

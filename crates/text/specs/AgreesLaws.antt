@@ -2,7 +2,7 @@
 use mathlib.Core.Path.{_≡_, refl, ap, sym, subst, _∙_}
 use mathlib.Core.Logic.{_↔_}
 use mathlib.Core.Bool.{Bool, true, false, cond}
-use mathlib.Core.List.{List, []}
+use mathlib.Core.List.{List}
 use mathlib.Core.Option.{Option, none, some}
 use Prim.Native.Nat.{ℕ, _+_, _≤_, _<_}
 use native.Mathlib.Omega.{arith}
@@ -23,7 +23,7 @@ use Rattle.diagram.specs.declared.registers.Register.{Register}
 use Rattle.text.specs.Text.{Bytes}
 use Rattle.text.specs.Answers.{written}
 use Rattle.text.specs.Session.{Capacity, Run, run}
-use Rattle.text.specs.Agrees.{nodeTensors, isFilled, Agree, IsNode, Agrees, OneLine, Passes, start, line, AgreesThroughout, Point, Between}
+use Rattle.text.specs.Agrees.{nodeTensors, isFilled, Agree, IsNode, Agrees, Passes, start, line, AgreesThroughout, Point, Between}
 use Rattle.text.specs.declared.progress.Session.{Session}
 
 pub node-tensors : (s : List ℕ) (st : State) → nodeTensors s (st .count) ≡ setOf s st

@@ -162,10 +162,6 @@ line-answered {line} {next} {s} {c'} {s'} {o} {o'} {p} {x} {y} {n} l r w h =
       refused = λ no. r .refused (sym (ap (λ z. isNo (z .0)) (r .is)) ∙ rw (l .call) no);
     }
 
-pub turned : {text : Bytes} {s c' s' : List ℕ} {o o' : Bytes} {p r : Progress} {e : ℕ} → Ends LF text (p .place) e
-    → LineAnswered (part text (p .place) e) (e + 1) s c' s' o o' p r → Turned text s c' s' o o' p r
-turned {e = e} n a = record { end = e; ends = n; answered = a }
-
 pub turned-less : {text : Bytes} {s c' s' : List ℕ} {o o' : Bytes} {p r : Progress} → p .place < length text → Turned text s c' s' o o' p r
     → length text + 1 - r .place < length text + 1 - p .place
 turned-less h w = omega (arith, w .ends .from, w .answered .place)

@@ -97,7 +97,7 @@ fn read(n: usize, line: &[u8]) -> Item
     gate_line(n, &line[a..e], qubits)
 }
 
-// The gate of a good gate line, for who reads a good text again.
+// The gate of a good gate line, when a good text is read again.
 pub fn gate(n: usize, line: &[u8]) -> Gate
     requires { ⌜ IsGate (itemOf n (now line)) ⌝ }
     ensures { λ g. ⌜ GateRead n (now (line .entry)) g ⌝ }
