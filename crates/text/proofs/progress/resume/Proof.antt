@@ -20,7 +20,11 @@ returns : tie.Need-returns Inv-loop μ-loop
 returns c = search (needs, going-limit)
 
 returns-2 : tie.Need-returns-2 Inv-loop μ-loop
-returns-2 c = search (needs, going-stop)
+returns-2 c =
+    let room = c .before in
+    let few = room .before .before in
+    let more = few .before .before in
+    going-stop (more .before .before .loop .inv .0) (more .if1 .taken) (few .if2 .left) (room .if3 .taken) (c .stop .ensures)
 
 turn-requires : tie.Need-turn-requires Inv-loop μ-loop
 turn-requires c κs = (search needs, search (needs, going-turnable))
