@@ -1,14 +1,15 @@
--- Reading until the input ends: which bytes were read no contract can say, so they are any; what was done with them
--- is said.
+-- Reading until the input ends: which bytes a read hands over no contract can say, so they are any; what was done with
+-- them is said, read after read.
 use mathlib.Core.Path.{_≡_}
 use mathlib.Core.Logic.{_≢_}
-use mathlib.Core.Bool.{true, false}
+use mathlib.Core.Bool.{Bool, true, false}
 use mathlib.Core.List.{List}
 use Prim.Native.Nat.{ℕ}
 use lib.ListN.{length, take}
 use Rattle.stdin.specs.Came.{Answers}
 use Rattle.stdin.specs.declared.Came.{Came}
-use Rattle.stdin.specs.declared.Next.the-variants.{End}
+use Rattle.stdin.specs.declared.Next.{Next}
+use Rattle.stdin.specs.declared.Next.the-variants.{More, End, Failed}
 use Rattle.text.specs.Text.{Bytes, lines}
 use Rattle.text.specs.declared.engine.Engine.{Engine}
 use Rattle.session.specs.Feed.{Ran, RanFirst, RanWhole, Fed, Takes}
@@ -17,6 +18,12 @@ use Rattle.session.specs.declared.input.Turn.{Turn}
 use Rattle.session.specs.declared.outcome.Ending.{Ending}
 use Rattle.session.specs.declared.outcome.Ending.the-variants.{Whole, Unread, Unwritten}
 use Rattle.session.specs.declared.outcome.Outcome.{Outcome}
+
+-- only after bytes that came, and where every answer was written, is more read
+abbrev pub goesOn : Next → Bool → Bool
+goesOn More written = written
+goesOn End written = false
+goesOn Failed written = false
 
 -- the bytes that came were taken in, all and in order
 pub record Took (came : Came) (part line c s : List ℕ) (h : Held) (line' c' s' : List ℕ) (t : Turn) : Type 0 where
@@ -35,6 +42,18 @@ pub record Serving (line c s : List ℕ) (h : Held) : Type 0 where
   pub text : Bytes
   pub lines : ℕ
   pub fed : Fed text lines line c s h
+
+-- Read after read: each after one that brought bytes and whose answers were all written. `t` is what the last one left, and what it said of what
+-- comes next.
+pub data Turns (line₀ c₀ s₀ : List ℕ) (h₀ : Held) : List ℕ → List ℕ → List ℕ → Turn → Type 0 where
+  none : Turns line₀ c₀ s₀ h₀ line₀ c₀ s₀ (record { held = h₀; next = More })
+  more : {line c s line' c' s' : List ℕ} {t t' : Turn} → Turns line₀ c₀ s₀ h₀ line c s t → goesOn (t .next) (t .held .written) ≡ true
+      → Reads line c s (t .held) line' c' s' t' → Turns line₀ c₀ s₀ h₀ line' c' s' t'
+
+-- the input is taken in so far
+pub record Receives (line₀ c₀ s₀ : List ℕ) (h₀ : Held) (line c s : List ℕ) (t : Turn) : Type 0 where
+  pub serving : Serving line c s (t .held)
+  pub turns : Turns line₀ c₀ s₀ h₀ line c s t
 
 -- What was run of the input: all its lines; where reading failed, the lines that ended; where writing failed, the
 -- first lines.
@@ -64,6 +83,18 @@ pub record Finishes (line c s : List ℕ) (t : Turn) (s' : List ℕ) (r : Outcom
   pub cut : t .next ≢ End → Still s (t .held) s' r
   pub lost : t .held .written ≡ false → Still s (t .held) s' r
 
-pub record Served (s : List ℕ) (r : Outcome) : Type 0 where
+-- A session on an input: read after read until one does not bring more or an answer is not written, and then its end. What was run is that of the
+-- bytes that came, in order.
+pub record Served (s' : List ℕ) (r : Outcome) : Type 0 where
+  pub line₀ : List ℕ
+  pub c₀ : List ℕ
+  pub s₀ : List ℕ
+  pub h₀ : Held
+  pub line : List ℕ
+  pub c : List ℕ
+  pub s : List ℕ
+  pub last : Turn
+  pub turns : Turns line₀ c₀ s₀ h₀ line c s last
+  pub finishes : Finishes line c s last s' r
   pub text : Bytes
-  pub runs : Runs (r .ending) text s (r .engine)
+  pub runs : Runs (r .ending) text s' (r .engine)

@@ -1,7 +1,7 @@
 -- The loop over the input, and its end.
-use mathlib.Core.Path.{_≡_, refl}
+use mathlib.Core.Path.{_≡_, refl, sym}
 use mathlib.Core.Logic.{_≢_}
-use mathlib.Core.Bool.{true, false}
+use mathlib.Core.Bool.{Bool, true, false, not, false≢true}
 use mathlib.Core.List.{List, [], _++_}
 use Prim.Native.Nat.{ℕ, _≤_}
 use native.Mathlib.Omega.{arith}
@@ -12,9 +12,9 @@ use Rattle.text.specs.Squeeze.{Begun}
 use Rattle.text.specs.declared.engine.Engine.{Engine}
 use Rattle.text.specs.declared.squeeze.Squeeze.{Squeeze}
 use Rattle.session.specs.Answer.{none}
-use Rattle.session.specs.Feed.{Ends}
+use Rattle.session.specs.Feed.{Keeps, Ends}
 use Rattle.session.specs.FeedLaws.{ran-none, first-to, first-all}
-use Rattle.session.specs.Input.{Reads, Serving, Closes, Finishes, Served}
+use Rattle.session.specs.Input.{goesOn, Reads, Serving, Turns, none as noTurns, more, Receives, Closes, Finishes, Served}
 use Rattle.session.specs.declared.answer.Told.{Told}
 use Rattle.session.specs.declared.feed.Held.{Held}
 use Rattle.session.specs.declared.input.Turn.{Turn}
@@ -40,6 +40,18 @@ pub serving-on : {line c s line' c' s' : List ℕ} {h : Held} {t : Turn} → Ser
 serving-on v w =
     let z = w .took .takes .on (v .text) (v .lines) (v .fed) in
     record { text = v .text ++ take (w .came .count) (w .part); lines = z .lines; fed = z .fed }
+
+-- the loop goes on where its test says so
+pub goes-more : (b : Bool) {c : Bool} → b ≡ c → not b ≡ false → c ≡ true
+goes-more true e h = sym e
+goes-more false e h = absurd (false≢true (sym h))
+
+pub receives-start : {line c s : List ℕ} {h : Held} → Serving line c s h → Receives line c s h line c s (record { held = h; next = More })
+receives-start v = record { serving = v; turns = noTurns }
+
+pub receives-on : {line₀ c₀ s₀ : List ℕ} {h₀ : Held} {line c s line' c' s' : List ℕ} {t t' : Turn} → Receives line₀ c₀ s₀ h₀ line c s t
+    → goesOn (t .next) (t .held .written) ≡ true → Reads line c s (t .held) line' c' s' t' → Receives line₀ c₀ s₀ h₀ line' c' s' t'
+receives-on v g w = record { serving = serving-on (v .serving) w; turns = more (v .turns) g w }
 
 -- the end
 
@@ -91,5 +103,22 @@ module _ {line c s : List ℕ} {t : Turn} where
     lost = λ o. record { engine = refl; store = refl };
   }
 
-pub served : {line c s s' : List ℕ} {t : Turn} {r : Outcome} → Serving line c s (t .held) → Finishes line c s t s' r → Served s' r
-served v f = record { text = v .text; runs = f .on (v .text) (v .lines) (v .fed) }
+pub served : {line₀ c₀ s₀ : List ℕ} {h₀ : Held} {line c s s' : List ℕ} {t : Turn} {r : Outcome} → Receives line₀ c₀ s₀ h₀ line c s t → Finishes line c s t s' r
+    → Served s' r
+served {line₀} {c₀} {s₀} {h₀} {line} {c} {s} {t = t} v f = record {
+  line₀ = line₀;
+  c₀ = c₀;
+  s₀ = s₀;
+  h₀ = h₀;
+  line = line;
+  c = c;
+  s = s;
+  last = t;
+  turns = v .turns;
+  finishes = f;
+  text = v .serving .text;
+  runs = f .on (v .serving .text) (v .serving .lines) (v .serving .fed);
+}
+
+pub receives-keeps : {line₀ c₀ s₀ : List ℕ} {h₀ : Held} {line c s : List ℕ} {t : Turn} → Receives line₀ c₀ s₀ h₀ line c s t → Keeps line c s (t .held)
+receives-keeps v = v .serving .fed .keeps

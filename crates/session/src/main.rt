@@ -16,7 +16,10 @@ use outcome::Outcome;
 use stdin::Next;
 use text::engine;
 use text::squeeze;
-ghost use Rattle.session.specs.Input.{Serving, Served};
+ghost use mathlib.Core.Path.{_≡_};
+ghost use mathlib.Core.Bool.{true};
+ghost use Rattle.diagram.specs.Node.{capacity};
+ghost use Rattle.session.specs.Input.{goesOn, Serving, Receives, Served};
 
 // 2048 nodes of 16 bytes.
 const STORE: usize = 32768;
@@ -24,19 +27,22 @@ const STORE: usize = 32768;
 // 4096 remembered results of four words.
 const CACHE: usize = 16384;
 
-fn goes_on(t: Turn) -> bool {
+fn goes_on(t: Turn) -> bool
+    ensures { λ r. ⌜ r ≡ goesOn (t .next) (t .held .written) ⌝ }
+{
     let held = t.held;
     let next = t.next;
     match next {
         Next::More => held.written,
-        _ => false,
+        Next::End => false,
+        Next::Failed => false,
     }
 }
 
 // A proved loop has to end, and nothing says that an input does. So it counts down from a number that no run uses up.
 fn serve(line: &mut [u8], store: &mut [u8], cache: &mut [u64], start: Held) -> Turn
-    requires { ⌜ Serving (now line) (now cache) (now store) start ⌝ }
-    ensures { λ r. ⌜ Serving (now (line .exit)) (now (cache .exit)) (now (store .exit)) (r .held) ⌝ }
+    requires { ⌜ Serving (now line) (now cache) (now store) start × (start .written ≡ true) ⌝ }
+    ensures { λ r. ⌜ Receives (now (line .entry)) (now (cache .entry)) (now (store .entry)) start (now (line .exit)) (now (cache .exit)) (now (store .exit)) r ⌝ }
 {
     let mut t = Turn {
         held: start,
@@ -55,7 +61,7 @@ fn serve(line: &mut [u8], store: &mut [u8], cache: &mut [u64], start: Held) -> T
 
 // The input to its end, and its last line.
 fn session(line: &mut [u8], store: &mut [u8], cache: &mut [u64], start: Held) -> Outcome
-    requires { ⌜ Serving (now line) (now cache) (now store) start ⌝ }
+    requires { ⌜ Serving (now line) (now cache) (now store) start × (start .written ≡ true) ⌝ }
     ensures { λ r. ⌜ Served (now (store .exit)) r ⌝ }
 {
     let t = serve(line, store, cache, start);
@@ -63,6 +69,7 @@ fn session(line: &mut [u8], store: &mut [u8], cache: &mut [u64], start: Held) ->
 }
 
 fn run(store: &mut [u8], cache: &mut [u64]) -> Outcome
+    requires { ⌜ capacity (now store) ≡ 2048 ⌝ }
     ensures { λ r. ⌜ Served (now (store .exit)) r ⌝ }
 {
     let mut line = [0u8; 64];

@@ -8,7 +8,7 @@ use Rattle.stdin.specs.declared.Next.the-variants.{End}
 use Rattle.text.specs.Text.{Bytes}
 use Rattle.text.specs.Judge.{Gives}
 use Rattle.text.specs.declared.ruling.Verdict.{Verdict}
-use Rattle.verdict.specs.Input.{Holds}
+use Rattle.verdict.specs.Input.{Holds, Turns}
 use Rattle.verdict.specs.declared.input.Turn.{Turn}
 use Rattle.verdict.specs.declared.ending.Ending.{Ending}
 use Rattle.verdict.specs.declared.ending.Ending.the-variants.{Judged, Longer, Unread}
@@ -31,10 +31,13 @@ pub record Finishes (text : Bytes) (s : List ℕ) (o o' : Bytes) (t : Turn) (r :
   pub whole : t .next ≡ End → r ≢ Unread
   pub cut : t .next ≢ End → r ≡ Unread
 
--- some bytes came, and that is how it ends
-pub record Served (room : ℕ) (s : List ℕ) (o o' : Bytes) (r : Ending) : Type 0 where
+-- some bytes came, and that is how it ends; where the last read has not said that the input has ended, nothing is answered
+pub record Served (text text' : Bytes) (s : List ℕ) (o o' : Bytes) (r : Ending) : Type 0 where
+  pub last : Turn
+  pub turns : Turns text text' last
+  pub cut : last .next ≢ End → r ≡ Unread
   pub came : Bytes
-  pub ends : Ends r came room s o o'
+  pub ends : Ends r came (length text') s o o'
 
 -- the answer is inside the output
 pub record Shown (r : Ending) (o : Bytes) : Type 0 where

@@ -10,7 +10,8 @@ use Rattle.stdin.specs.declared.Next.the-variants.{More, End, Failed}
 use Rattle.text.specs.Text.{Bytes}
 use Rattle.text.specs.Judge.{Gives, gives-within}
 use Rattle.text.specs.declared.ruling.Verdict.{Verdict}
-use Rattle.verdict.specs.Input.{Holds, Received}
+use Rattle.verdict.specs.Input.{Holds, Turns}
+use Rattle.verdict.specs.InputLaws.{turns-received}
 use Rattle.verdict.specs.Ending.{Ends, Judges, Finishes, Served, Shown}
 use Rattle.verdict.specs.declared.input.Turn.{Turn}
 use Rattle.verdict.specs.declared.ending.Ending.{Ending}
@@ -39,12 +40,13 @@ finishes-more e = finishes-cut (λ q. let i : _≡_ {A = ℕ} 0 1 = cc in omega 
 pub finishes-failed : {text : Bytes} {s : List ℕ} {o : Bytes} {t : Turn} → t .next ≡ Failed → Finishes text s o o t Unread
 finishes-failed e = finishes-cut (λ q. let i : _≡_ {A = ℕ} 0 1 = cc in omega arith)
 
-pub served : {text : Bytes} {s : List ℕ} {o o' : Bytes} {t : Turn} {r : Ending} (room : ℕ) → length text ≡ room → Received text (t .len) → Finishes text s o o' t r
-    → Served room s o o' r
-served {s = s} {o} {o'} {r = r} room l v f = record { came = v .came; ends = subst (λ n. Ends r (v .came) n s o o') l (f .on (v .came) (v .holds)) }
+pub served : {text₀ text : Bytes} {s : List ℕ} {o o' : Bytes} {t : Turn} {r : Ending} → Turns text₀ text t → Finishes text s o o' t r → Served text₀ text s o o' r
+served {t = t} u f =
+    let v = turns-received u in
+    record { last = t; turns = u; cut = f .cut; came = v .came; ends = f .on (v .came) (v .holds) }
 
-pub served-shown : {room : ℕ} {s : List ℕ} {o o' : Bytes} {r : Ending} → Served room s o o' r → Shown r o'
-served-shown {room} {s} {o} {o'} {r} v = record { within = λ w e. gives-within (subst (λ (x : Ending). Ends x (v .came) room s o o') e (v .ends) .1) }
+pub served-shown : {text text' : Bytes} {s : List ℕ} {o o' : Bytes} {r : Ending} → Served text text' s o o' r → Shown r o'
+served-shown {text} {text'} {s} {o} {o'} {r} v = record { within = λ w e. gives-within (subst (λ (x : Ending). Ends x (v .came) (length text') s o o') e (v .ends) .1) }
 
 pub shown : {r : Ending} {o : Bytes} {v : Verdict} → Shown r o → r ≡ Judged v → v .bytes ≤ length o
 shown {v = v} w e = w .within v e

@@ -1,5 +1,5 @@
 -- Taking in bytes one after the other.
-use mathlib.Core.Path.{_≡_, sym, _∙_}
+use mathlib.Core.Path.{_≡_, refl, sym, _∙_}
 use mathlib.Core.List.{[], _∷_, _++_, append-nil, append-assoc}
 use Prim.Native.Nat.{ℕ, _+_, _≤_, _<_}
 use native.Mathlib.Numerals.{add-one}
@@ -7,7 +7,10 @@ use native.Mathlib.Omega.{arith}
 use lib.ListN.{length, take, set, getD, length-append, length-set}
 use lib.Seq.{take-suc, take-all, take-nil, take-suc-set, take-append-le}
 use Rattle.text.specs.Text.{Bytes}
-use Rattle.verdict.specs.Input.{Takes, Reads, Received}
+use Rattle.verdict.specs.Input.{goesOn, Takes, Reads, Received, Turns, none, more}
+use mathlib.Core.Bool.{Bool, true, false, not, false≢true}
+use Rattle.stdin.specs.declared.Next.{Next}
+use Rattle.stdin.specs.declared.Next.the-variants.{More, End, Failed}
 use Rattle.verdict.specs.declared.input.Turn.{Turn}
 
 -- one byte
@@ -64,3 +67,25 @@ received-start text = record { came = []; holds = record { kept = sym (take-nil 
 
 pub received-on : {text text' : Bytes} {len : ℕ} {t : Turn} → Received text len → Reads text len text' t → Received text' (t .len)
 received-on v w = record { came = v .came ++ take (w .came .count) (w .part); holds = w .took .takes .on (v .came) (v .holds) }
+
+goes-true : (x : Next) → goesOn x ≡ true → x ≡ More
+goes-true More e = refl
+goes-true End e = absurd (false≢true e)
+goes-true Failed e = absurd (false≢true e)
+
+goes-not : (b : Bool) (x : Next) → b ≡ goesOn x → not b ≡ false → x ≡ More
+goes-not true x e h = goes-true x (sym e)
+goes-not false x e h = absurd (false≢true (sym h))
+
+pub goes-more : {b : Bool} {x : Next} → b ≡ goesOn x → not b ≡ false → x ≡ More
+goes-more {b} {x} e h = goes-not b x e h
+
+pub turns-start : {text : Bytes} → Turns text text (record { len = 0; next = More })
+turns-start = none
+
+pub turns-on : {text₀ text text' : Bytes} {t t' : Turn} → Turns text₀ text t → t .next ≡ More → Reads text (t .len) text' t' → Turns text₀ text' t'
+turns-on = more
+
+pub turns-received : {text₀ text : Bytes} {t : Turn} → Turns text₀ text t → Received text (t .len)
+turns-received {text₀} none = received-start text₀
+turns-received (more r e w) = received-on (turns-received r) w

@@ -3,7 +3,8 @@ use stdin::Came;
 use stdin::Next;
 ghost use mathlib.Core.List.{[], _∷_};
 ghost use Rattle.io.specs.Counts.{Counts};
-ghost use Rattle.verdict.specs.Input.{Takes, Took, Reads, Received};
+ghost use mathlib.Core.Path.{_≡_};
+ghost use Rattle.verdict.specs.Input.{goesOn, Takes, Took, Reads, Turns};
 
 // How many bytes have come, and what the last read says of what comes next.
 pub struct Turn {
@@ -53,17 +54,20 @@ fn read(text: &mut [u8], len: usize) -> Turn
     take(text, len, came, &part)
 }
 
-fn goes_on(next: Next) -> bool {
+fn goes_on(next: Next) -> bool
+    ensures { λ r. ⌜ r ≡ goesOn next ⌝ }
+{
     match next {
         Next::More => true,
-        _ => false,
+        Next::End => false,
+        Next::Failed => false,
     }
 }
 
 // Reads to the input's end. A proved loop has to end, and nothing says that an input does. So it counts down from a
 // number that no run uses up.
 pub fn receive(text: &mut [u8]) -> Turn
-    ensures { λ r. ⌜ Received (now (text .exit)) (r .len) ⌝ }
+    ensures { λ r. ⌜ Turns (now (text .entry)) (now (text .exit)) r ⌝ }
 {
     let mut t = Turn {
         len: 0,

@@ -8,7 +8,9 @@ mod input;
 use ending::Ending;
 use libc::STDERR_FILENO;
 use libc::STDOUT_FILENO;
+ghost use mathlib.Core.Path.{_≡_};
 ghost use lib.ListN.{length};
+ghost use Rattle.diagram.specs.Node.{capacity};
 ghost use Prim.Native.Nat.{_≤_};
 ghost use Rattle.verdict.specs.Ending.{Served, Shown};
 
@@ -22,7 +24,8 @@ const CACHE: usize = 16384;
 const TEXT: usize = 1048576;
 
 fn run(text: &mut [u8], store: &mut [u8], cache: &mut [u64], out: &mut [u8]) -> Ending
-    ensures { λ r. ⌜ Served (length (now (text .entry))) (now (store .entry)) (now (out .entry)) (now (out .exit)) r ⌝ }
+    requires { ⌜ capacity (now store) ≡ 2048 ⌝ }
+    ensures { λ r. ⌜ Served (now (text .entry)) (now (text .exit)) (now (store .entry)) (now (out .entry)) (now (out .exit)) r ⌝ }
 {
     let t = input::receive(text);
     ending::finish(text, store, cache, out, t)
