@@ -1,5 +1,6 @@
 #!/usr/bin/env python3
-"""A second verdict, calculated apart from the engine: dense matrices decide, and a plain tally says whether the store is full.
+"""A second verdict, calculated without the engine: dense matrices decide, and a plain tally says whether the store is
+full.
 
 Reads a verdict text on standard input and prints the answer line, as target/bin/verdict does, only slower. So
 
@@ -126,7 +127,7 @@ def compare(first, second):
     return "differ"
 
 
-# ---- the tally, to know what is full: a tensor is a weight and a normal tensor, which is a number in a table that only grows
+# ---- the tally, which says what is full: a tensor is a weight and a normal tensor, a number in a table that only grows
 
 ZERO, ONE = (0, 0), (1, 0)
 NO_INDEX = 24

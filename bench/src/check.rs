@@ -48,8 +48,8 @@ fn damage(text: &mut Vec<u8>, random: &mut Random) {
     }
 }
 
-/// So many random lists of each family, each as it is, at a small capacity and damaged. The answer counts how many verdicts
-/// were `same`, `factor`, `differ`, full, and refused otherwise.
+/// So many random lists of each family, each as it is, at a small capacity and damaged. The answer counts how many
+/// verdicts were `same`, `factor`, `differ`, full, and refused otherwise.
 pub fn random(judges: &mut Judges, lists: usize) -> [usize; 5] {
     let mut seen = [0; 5];
     let mut random = Random::new(1);
@@ -80,7 +80,8 @@ fn note(seen: &mut [usize; 5], answer: &[u8]) {
     seen[kind.unwrap_or(4)] += 1;
 }
 
-/// The stored verdicts: texts that end in a byte 0, each with its capacity in a line before it. The answer is their number.
+/// The stored verdicts: texts that end in a byte 0, each with its capacity in a line before it. The answer is their
+/// number.
 pub fn stored(judges: &mut Judges, stdin: &[u8], stdout: &[u8]) -> usize {
     let mut answers = Vec::new();
     let mut count = 0;

@@ -1,5 +1,5 @@
-//! The engine of document 01 without proofs: the same diagrams, the same recursions, the same calls for each gate, written
-//! for speed. It answers what the proved engine answers, `no 8` at the same line included.
+//! The engine of document 01 without proofs: the same diagrams, the same recursions, the same calls for each gate,
+//! written for speed. It answers what the proved engine answers, `no 8` at the same line included.
 
 mod cache;
 pub mod count;
@@ -78,7 +78,8 @@ impl<C: Count> Engine<C> {
         Ok(())
     }
 
-    /// The gate's tensor, contracted with `e` over the middles of its qubits; then their fresh indices become the middles.
+    /// The gate's tensor, contracted with `e` over the middles of its qubits; then their fresh indices become the
+    /// middles.
     fn apply(&mut self, g: Gate, e: Edge) -> Made {
         let tensor = self.gate(g)?;
         let (p, q) = (u32::from(g.a.min(g.b)), u32::from(g.a.max(g.b)));

@@ -65,7 +65,8 @@ impl Judge for Proved {
     }
 }
 
-/// All engines: those that are counted against the capacity, the proved one first if it is linked, and then the dense one.
+/// All engines: those that are counted against the capacity, the proved one first if it is linked, and then the dense
+/// one.
 pub struct Judges {
     pub diagrams: Vec<Box<dyn Judge>>,
     pub dense: Dense,

@@ -40,8 +40,8 @@ fn apart(g: Gate, h: Gate) -> bool {
     g.a != h.a && g.a != h.b && g.b != h.a && g.b != h.b
 }
 
-/// An equivalent list of `length` gates: some gates are replaced, pairs of a gate and its inverse are put in, and neighbours
-/// on different qubits change places. It may be one gate short where no gate stands for two.
+/// An equivalent list of `length` gates: some gates are replaced, pairs of a gate and its inverse are put in, and
+/// neighbours on different qubits change places. It may be one gate short where no gate stands for two.
 pub fn equivalent(
     list: &[Gate],
     n: u8,

@@ -1,4 +1,5 @@
-/* Prints the verdict on a text: of the file named as argument, or of standard input. Exit status 1 where there is no verdict. */
+/* Prints the verdict on a text: of the file named as argument, or of standard input. Exit status 1 where there is no
+ * verdict. */
 #include "jorehyi.h"
 
 #include <stdio.h>

@@ -1,16 +1,19 @@
 /*
- * The equivalence engine for quantum gate lists, for C99 and C++11 on x86-64. Link libtext.a, which `rt staticlib text` writes.
+ * The equivalence engine for quantum gate lists, for C99 and C++11 on x86-64. Link libjorehyi.a, which
+ * `rt staticlib jorehyi` writes.
  *
- * jorehyi_session answers the lines of a session; jorehyi_verdict writes the verdict on two gate lists. Both are proved, for every
- * text, store, cache and output of any length, 0 included, to answer as the definitions say: which bytes come, which stay as
- * they were, the code and the counts. They read and write inside the lent memory only, keep nothing between calls, allocate
- * nothing, and end.
+ * jorehyi_session answers the lines of a session; jorehyi_verdict writes the verdict on two gate lists. Both are
+ * proved, for every text, store, cache and output of any length, 0 included, to answer as the definitions say: which
+ * bytes come, which stay as they were, the code and the counts. They read and write inside the lent memory only, keep
+ * nothing between calls, allocate nothing, and end.
  *
  * The lent memory:
  *   text    the lines; it is only read.
  *   store   the nodes, 16 bytes each: the capacity is store_len / 16, at most 65,535.
  *   cache   remembered results, four words each. Its length changes no answer, only the time.
- *   out     the answers. Bytes after those written are untouched. A session goes on while 16 bytes remain, a verdict needs 32.
+ *   out     the answers. Bytes after those written are untouched. A session goes on while 16 bytes remain; a verdict
+ *           needs 32.
+ *
  * What store, cache and out hold before the call changes no answer.
  *
  * The caller owes, for each of the four ranges and for the result, during the whole call:
@@ -21,8 +24,8 @@
  *   5. every byte of it can be read, and but for the text written;
  *   6. every byte of it has been given a value (calloc, memset or an initialiser does; malloc alone does not);
  *   7. no other thread writes it, nor reads it but for the text.
- * The raw functions test none of this. jorehyi_checked_session and jorehyi_checked_verdict test 1 to 4, or make it so where the
- * length is 0; 5 to 7 cannot be tested and stay with the caller.
+ * The raw functions test none of this. jorehyi_checked_session and jorehyi_checked_verdict test 1 to 4, or make it so
+ * where the length is 0; 5 to 7 cannot be tested and stay with the caller.
  */
 #ifndef JOREHYI_H
 #define JOREHYI_H
@@ -44,17 +47,19 @@ enum {
 };
 
 /*
- * The raw functions. Lengths count elements. They return false and change nothing at all where result_len is below 52 or 2;
- * otherwise they return true. Later words of a longer result are untouched.
+ * The raw functions. Lengths count elements. They return false and change nothing at all where result_len is below 52
+ * or 2; otherwise they return true. Later words of a longer result are untouched.
  *
- * session: code (0, or 9 where the output was too short for a line), lines answered, bytes written, node count; then for register
- * i, at words 4+3i to 6+3i: 1 where it is filled and 0 where not, its weight, its node (0 and 0 where not).
+ * session: code (0, or 9 where the output was too short for a line), lines answered, bytes written, node count; then
+ * for register i, at words 4+3i to 6+3i: 1 where it is filled and 0 where not, its weight, its node (0 and 0 where
+ * not).
+ *
  * verdict: code (0, or 9 where the output was too short), bytes written.
  */
-bool jorehyi_session(const uint8_t *text, size_t text_len, uint8_t *store, size_t store_len, uint64_t *cache, size_t cache_len,
-                     uint8_t *out, size_t out_len, uint64_t *result, size_t result_len);
-bool jorehyi_verdict(const uint8_t *text, size_t text_len, uint8_t *store, size_t store_len, uint64_t *cache, size_t cache_len,
-                     uint8_t *out, size_t out_len, uint64_t *result, size_t result_len);
+bool jorehyi_session(const uint8_t *text, size_t text_len, uint8_t *store, size_t store_len, uint64_t *cache,
+                     size_t cache_len, uint8_t *out, size_t out_len, uint64_t *result, size_t result_len);
+bool jorehyi_verdict(const uint8_t *text, size_t text_len, uint8_t *store, size_t store_len, uint64_t *cache,
+                     size_t cache_len, uint8_t *out, size_t out_len, uint64_t *result, size_t result_len);
 
 #ifdef __cplusplus
 }
@@ -134,9 +139,10 @@ static inline uint64_t *jorehyi_nowhere(void) {
 }
 
 /* The duties 1 to 4. Every pair of ranges has one that is written, so none may meet. */
-static inline enum jorehyi_status jorehyi_check(const uint8_t *text, size_t text_len, const uint8_t *store, size_t store_len,
-                                                const uint64_t *cache, size_t cache_len, const uint8_t *out, size_t out_len,
-                                                const void *result, size_t result_size, size_t result_align) {
+static inline enum jorehyi_status jorehyi_check(const uint8_t *text, size_t text_len, const uint8_t *store,
+                                                size_t store_len, const uint64_t *cache, size_t cache_len,
+                                                const uint8_t *out, size_t out_len, const void *result,
+                                                size_t result_size, size_t result_align) {
     struct jorehyi_range ranges[5];
     enum jorehyi_status found[5];
     int i, j;
@@ -172,8 +178,9 @@ static inline uint8_t *jorehyi_writable(uint8_t *p, size_t len) { return len == 
 static inline uint64_t *jorehyi_words(uint64_t *p, size_t len) { return len == 0 ? jorehyi_nowhere() : p; }
 
 /* A session, from no nodes and empty registers. */
-static inline enum jorehyi_status jorehyi_checked_session(const uint8_t *text, size_t text_len, uint8_t *store, size_t store_len,
-                                                          uint64_t *cache, size_t cache_len, uint8_t *out, size_t out_len,
+static inline enum jorehyi_status jorehyi_checked_session(const uint8_t *text, size_t text_len, uint8_t *store,
+                                                          size_t store_len, uint64_t *cache, size_t cache_len,
+                                                          uint8_t *out, size_t out_len,
                                                           struct jorehyi_session_result *result) {
     uint64_t words[JOREHYI_SESSION_WORDS] = {0};
     int i;
@@ -197,8 +204,9 @@ static inline enum jorehyi_status jorehyi_checked_session(const uint8_t *text, s
 }
 
 /* The verdict on a text: one line in the output, or none where it has fewer than 32 bytes. */
-static inline enum jorehyi_status jorehyi_checked_verdict(const uint8_t *text, size_t text_len, uint8_t *store, size_t store_len,
-                                                          uint64_t *cache, size_t cache_len, uint8_t *out, size_t out_len,
+static inline enum jorehyi_status jorehyi_checked_verdict(const uint8_t *text, size_t text_len, uint8_t *store,
+                                                          size_t store_len, uint64_t *cache, size_t cache_len,
+                                                          uint8_t *out, size_t out_len,
                                                           struct jorehyi_verdict_result *result) {
     uint64_t words[JOREHYI_VERDICT_WORDS] = {0};
     enum jorehyi_status status = jorehyi_check(text, text_len, store, store_len, cache, cache_len, out, out_len, result,

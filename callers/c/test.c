@@ -41,8 +41,8 @@ static bool wrote(const char *text) { return memcmp(out, text, strlen(text)) == 
 static struct jorehyi_session_result session(const char *text, size_t store_len, size_t cache_len, size_t out_len) {
     struct jorehyi_session_result result;
     reset();
-    CHECK(jorehyi_checked_session(bytes(text), strlen(text), store, store_len, cache, cache_len, out, out_len, &result) ==
-          JOREHYI_OK);
+    CHECK(jorehyi_checked_session(bytes(text), strlen(text), store, store_len, cache, cache_len, out, out_len,
+                                  &result) == JOREHYI_OK);
     CHECK(untouched_from(result.bytes));
     return result;
 }
@@ -50,8 +50,8 @@ static struct jorehyi_session_result session(const char *text, size_t store_len,
 static struct jorehyi_verdict_result verdict(const char *text, size_t store_len, size_t cache_len, size_t out_len) {
     struct jorehyi_verdict_result result;
     reset();
-    CHECK(jorehyi_checked_verdict(bytes(text), strlen(text), store, store_len, cache, cache_len, out, out_len, &result) ==
-          JOREHYI_OK);
+    CHECK(jorehyi_checked_verdict(bytes(text), strlen(text), store, store_len, cache, cache_len, out, out_len,
+                                  &result) == JOREHYI_OK);
     CHECK(untouched_from(result.bytes));
     return result;
 }
@@ -84,7 +84,8 @@ static const char SAME[] = "lines\t1\nH\t0\nH\t0\n=\n";
 
 static void the_printed_session(void) {
     struct jorehyi_session_result r =
-        session("gate\t0\tH\t0\nadd\t1\t0\t0\ncmp\t1\t0\nat\t0\t6\nlow\t2\t0\t2\ndrop\t0\ncollect\ncmp\t0\t1\n", STORE, CACHE, OUT);
+        session("gate\t0\tH\t0\nadd\t1\t0\t0\ncmp\t1\t0\nat\t0\t6\nlow\t2\t0\t2\ndrop\t0\ncollect\ncmp\t0\t1\n", STORE,
+                CACHE, OUT);
     CHECK(wrote("ok\t2\nok\t2\nfactor\t2\nv\t2040\nno\t7\nok\t2\nok\t2\nno\t3\n"));
     CHECK(r.code == 0 && r.lines == 8 && r.bytes == 46 && r.count == 2);
     /* twice H on qubit 0, whose first value is 2h, root two; H's own node is put in after its high part's */
@@ -129,10 +130,12 @@ static void session_output(void) {
     } cases[] = {{0, 0, 9}, {15, 0, 9}, {16, 1, 9}, {21, 2, 9}, {31, 4, 9}, {32, 4, 9}, {36, 5, 0}};
     static const char all[] = "ok\t0\nok\t0\nok\t0\nok\t0\nok\t0\n";
     for (size_t i = 0; i < sizeof cases / sizeof cases[0]; i++) {
-        struct jorehyi_session_result r = session("put\t0\t1\nput\t1\t1\nput\t2\t1\nput\t3\t1\nput\t4\t1\n", 0, 0, cases[i].len);
+        struct jorehyi_session_result r =
+            session("put\t0\t1\nput\t1\t1\nput\t2\t1\nput\t3\t1\nput\t4\t1\n", 0, 0, cases[i].len);
         CHECK(r.code == cases[i].code && r.lines == cases[i].lines && r.count == 0);
         CHECK(r.bytes == 5 * r.lines && memcmp(out, all, r.bytes) == 0);
-        for (size_t k = 0; k < JOREHYI_REGISTERS; k++) CHECK(k < r.lines ? holds(r.registers[k], 1, 0) : is_empty(r.registers[k]));
+        for (size_t k = 0; k < JOREHYI_REGISTERS; k++)
+            CHECK(k < r.lines ? holds(r.registers[k], 1, 0) : is_empty(r.registers[k]));
     }
 }
 
@@ -177,10 +180,12 @@ static void rubbish_in_the_lent_memory(void) {
         memset(store, rubbish[i], sizeof store);
         memset(cache, rubbish[i], sizeof cache);
         memset(out, rubbish[i], sizeof out);
-        CHECK(jorehyi_checked_verdict(bytes(SAME), strlen(SAME), store, STORE, cache, CACHE, out, OUT, &r) == JOREHYI_OK);
+        CHECK(jorehyi_checked_verdict(bytes(SAME), strlen(SAME), store, STORE, cache, CACHE, out, OUT, &r) ==
+              JOREHYI_OK);
         CHECK(r.bytes == 5 && memcmp(out, "same\n", 5) == 0);
         /* and again on what the first run left */
-        CHECK(jorehyi_checked_verdict(bytes(text), strlen(text), store, STORE, cache, CACHE, out, OUT, &r) == JOREHYI_OK);
+        CHECK(jorehyi_checked_verdict(bytes(text), strlen(text), store, STORE, cache, CACHE, out, OUT, &r) ==
+              JOREHYI_OK);
         CHECK(r.bytes == 7 && memcmp(out, "differ\n", 7) == 0);
     }
 }
@@ -268,7 +273,8 @@ static uint64_t block[512];
 
 static struct arguments good(void) {
     uint8_t *start = (uint8_t *)block;
-    struct arguments a = {start, 18, start + 18, 1030, block + 131, 64, start + 1560, 40, &session_place, &verdict_place};
+    struct arguments a = {start, 18,           start + 18, 1030,           block + 131,
+                          64,    start + 1560, 40,         &session_place, &verdict_place};
     memset(block, UNTOUCHED, sizeof block);
     memcpy(start, SAME, 18);
     memset(&session_place, UNTOUCHED, sizeof session_place);
@@ -277,11 +283,13 @@ static struct arguments good(void) {
 }
 
 static enum jorehyi_status call_session(struct arguments a) {
-    return jorehyi_checked_session(a.text, a.text_len, a.store, a.store_len, a.cache, a.cache_len, a.out, a.out_len, a.session);
+    return jorehyi_checked_session(a.text, a.text_len, a.store, a.store_len, a.cache, a.cache_len, a.out, a.out_len,
+                                   a.session);
 }
 
 static enum jorehyi_status call_verdict(struct arguments a) {
-    return jorehyi_checked_verdict(a.text, a.text_len, a.store, a.store_len, a.cache, a.cache_len, a.out, a.out_len, a.verdict);
+    return jorehyi_checked_verdict(a.text, a.text_len, a.store, a.store_len, a.cache, a.cache_len, a.out, a.out_len,
+                                   a.verdict);
 }
 
 /* Whether both calls reject the arguments for this reason and change nothing. */
@@ -326,7 +334,8 @@ static void null_for_the_result(void) {
 
 static void misaligned(void) {
     struct arguments a = good();
-    for (size_t by = 1; by < 8; by++) REJECTED(cache, (uint64_t *)(void *)((uint8_t *)(block + 131) + by), JOREHYI_MISALIGNED);
+    for (size_t by = 1; by < 8; by++)
+        REJECTED(cache, (uint64_t *)(void *)((uint8_t *)(block + 131) + by), JOREHYI_MISALIGNED);
     a.session = (struct jorehyi_session_result *)(void *)((uint8_t *)(block + 256) + 1);
     a.verdict = (struct jorehyi_verdict_result *)(void *)((uint8_t *)(block + 256) + 1);
     CHECK(rejected(a, JOREHYI_MISALIGNED));

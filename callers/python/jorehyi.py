@@ -3,11 +3,12 @@
 >>> judge(b"lines\\t1\\nX\\t0\\nZ\\t0\\nX\\t0\\n=\\nZ\\t0\\n")
 Answer(kind='factor', factor=65536, fault=None, line=None)
 
-session and verdict are the engine's two outer calls. They are proved, for every text and all lent memory of any length, to
-answer as the definitions say. This module lends them memory of its own for each call, so calls from several threads do not
-meet; the text is only read.
+session and verdict are the engine's two outer calls. They are proved, for every text and all lent memory of any
+length, to answer as the definitions say. This module lends them memory of its own for each call, so calls from several
+threads do not meet; the text is only read.
 
-The shared object is target/callers/libjorehyi.so, which callers/run links, or what the environment variable JOREHYI_SO names.
+The shared object is target/callers/libjorehyi.so, which callers/run links, or what the environment variable JOREHYI_SO
+names.
 """
 
 import ctypes
@@ -66,7 +67,8 @@ class Answer:
 
 
 def session(text: bytes, capacity: int = 2048, cache: int = 16384, out: Optional[int] = None) -> Session:
-    """Answers the lines of a session, on a store of capacity nodes, a cache of so many words and an output of so many bytes.
+    """Answers the lines of a session, on a store of capacity nodes, a cache of so many words and an output of so many
+    bytes.
 
     Without out there is room for every line's answer.
     """

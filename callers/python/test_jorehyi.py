@@ -22,7 +22,8 @@ class Document(unittest.TestCase):
     def test_the_printed_session(self):
         lines = (CRATES / "session" / "stdin").read_bytes()
         answers = (CRATES / "session" / "stdout").read_bytes()
-        # Register 1 is twice H on qubit 0, whose first value is 2h, root two; H's own node is put in after its high part's.
+        # Register 1 is twice H on qubit 0, whose first value is 2h, root two; H's own node is put in after its high
+        # part's.
         registers = (None, Edge(61457, 2)) + (None,) * 14
         self.assertEqual(session(lines), Session(0, 8, answers, 2, registers))
 

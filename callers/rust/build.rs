@@ -1,4 +1,4 @@
-//! Links the proved archive `libtext.a`, from the folder `JOREHYI_LIB` or from the repository's `target/staticlib`.
+//! Links the proved archive `libjorehyi.a`, from the folder `JOREHYI_LIB` or from the repository's `target/staticlib`.
 
 use std::env;
 use std::path::{Path, PathBuf};
@@ -13,15 +13,15 @@ fn folder() -> PathBuf {
 
 fn main() {
     let folder = folder();
-    let archive = folder.join("libtext.a");
+    let archive = folder.join("libjorehyi.a");
     if !archive.exists() {
         println!(
-            "cargo:warning={} is missing: `rt staticlib text` writes it",
+            "cargo:warning={} is missing: `rt staticlib jorehyi` writes it",
             archive.display()
         );
     }
     println!("cargo:rerun-if-env-changed=JOREHYI_LIB");
     println!("cargo:rerun-if-changed={}", archive.display());
     println!("cargo:rustc-link-search=native={}", folder.display());
-    println!("cargo:rustc-link-lib=static=text");
+    println!("cargo:rustc-link-lib=static=jorehyi");
 }

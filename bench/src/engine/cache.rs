@@ -2,8 +2,8 @@
 
 use super::store::Edge;
 
-/// The operation, its nodes, and its argument: for sum the ratio of the weights, for contraction the set of indices, for
-/// lowering the index.
+/// The operation, its nodes, and its argument: for sum the ratio of the weights, for contraction the set of indices,
+/// for lowering the index.
 #[derive(Clone, Copy, PartialEq, Eq)]
 pub struct Key(u64);
 

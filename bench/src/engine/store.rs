@@ -3,8 +3,8 @@
 use super::count::Count;
 use std::num::NonZeroU64;
 
-/// A weight times a node's tensor; node 0 is the constant 1. It is one word that is never 0, so that an optional edge is one
-/// word too and is returned in a register: the weight above 32 bits, a 1, the node.
+/// A weight times a node's tensor; node 0 is the constant 1. It is one word that is never 0, so that an optional edge
+/// is one word too and is returned in a register: the weight above 32 bits, a 1, the node.
 #[derive(Clone, Copy, Debug, PartialEq, Eq)]
 pub struct Edge(NonZeroU64);
 
@@ -184,8 +184,8 @@ impl Store {
         }
     }
 
-    /// Moves the reached nodes down and links all into a table whose size fits the nodes before the collection, since the
-    /// next gate makes about as many again.
+    /// Moves the reached nodes down and links all into a table whose size fits the nodes before the collection, since
+    /// the next gate makes about as many again.
     fn compact(&mut self, fixed: usize) {
         let bits = usize::BITS - self.count.leading_zeros() + 2;
         self.empty_table(bits.clamp(FEWEST_BITS, MOST_BITS));

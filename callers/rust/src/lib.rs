@@ -1,8 +1,8 @@
 //! Safe calls into the equivalence engine for quantum gate lists.
 //!
-//! [`session`] and [`verdict`] are the engine's two outer calls. They are proved, for every text, store, cache and output of
-//! any length, to answer as the definitions say; they ask nothing of their caller. [`judge`] is a verdict on buffers of
-//! its own, read into an [`Answer`].
+//! [`session`] and [`verdict`] are the engine's two outer calls. They are proved, for every text, store, cache and
+//! output of any length, to answer as the definitions say; they ask nothing of their caller. [`judge`] is a verdict on
+//! buffers of its own, read into an [`Answer`].
 //!
 //! ```
 //! use jorehyi::{judge, Answer};
@@ -12,9 +12,10 @@
 //! ```
 //!
 //! The lent memory:
-//! - `store` holds the nodes. The capacity is its bytes divided by 16, rounded down, at most 65,535. What it held before does not
-//!   matter.
-//! - `cache` remembers results, four words each. Its length and what it held before do not change any answer, only the time.
+//! - `store` holds the nodes. The capacity is its bytes divided by 16, rounded down, at most 65,535. What it held
+//!   before does not matter.
+//! - `cache` remembers results, four words each. Its length and what it held before do not change any answer, only the
+//!   time.
 //! - `out` gets the answers. Bytes after those written are untouched.
 
 mod raw;
@@ -74,7 +75,8 @@ pub enum Answer {
     Factor(u32),
     /// Neither.
     Differ,
-    /// Nothing is said about the lists: the fault's number (10 to 14, or 8 where the store was full) and its line, counted from 1.
+    /// Nothing is said about the lists: the fault's number (10 to 14, or 8 where the store was full) and its line,
+    /// counted from 1.
     No { fault: u8, line: u64 },
 }
 
@@ -99,7 +101,8 @@ pub fn verdict(text: &[u8], store: &mut [u8], cache: &mut [u64], out: &mut [u8])
     }
 }
 
-/// The verdict on a text, on a store of `capacity` nodes (those above [`MAX_CAPACITY`] are of no use and are not allocated).
+/// The verdict on a text, on a store of `capacity` nodes (those above [`MAX_CAPACITY`] are of no use and are not
+/// allocated).
 ///
 /// # Panics
 ///

@@ -1,4 +1,5 @@
-//! The exported functions of the archive. Nothing checks these declarations against its source: `crates/text` has it.
+//! The exported functions of the archive. Nothing checks these declarations against its source: `crates/jorehyi` has
+//! it.
 
 /// The words of a session's result: code, lines, bytes, count, and three for each of sixteen registers.
 pub const SESSION_WORDS: usize = 52;
@@ -56,9 +57,10 @@ fn lend<const WORDS: usize>(
     out: &mut [u8],
 ) -> [u64; WORDS] {
     let mut result = [0; WORDS];
-    // SAFETY: `call` is one of the two above. Each pointer and length comes from one slice reference, which is what they ask for:
-    // not null, aligned, initialised, valid for its whole length of at most isize::MAX bytes, and, being exclusive where it
-    // is written, apart from every other and touched by nobody else during the call. They have no other precondition.
+    // SAFETY: `call` is one of the two above. Each pointer and length comes from one slice reference, which is what
+    // they ask for: not null, aligned, initialised, valid for its whole length of at most isize::MAX bytes, and, being
+    // exclusive where it is written, apart from every other and touched by nobody else during the call. They have no
+    // other precondition.
     let done = unsafe {
         call(
             text.as_ptr(),

@@ -27,7 +27,8 @@ fn the_printed_session() {
     assert!(out[written..].iter().all(|&b| b == 0xa5));
     assert_eq!((result.code, result.lines, result.count), (0, 8, 2));
 
-    // Register 1 is twice H on qubit 0, whose first value is 2h, root two; H's own node is put in after its high part's.
+    // Register 1 is twice H on qubit 0, whose first value is 2h, root two; H's own node is put in after its high
+    // part's.
     let mut registers = [None; 16];
     registers[1] = Some(Edge {
         weight: 61_457,

@@ -1,5 +1,5 @@
-// Writes the verdict on each text of standard input. A byte 0 ends a text. Before each stands a line of its own, the capacity in nodes, which is not
-// part of the text.
+// Writes the verdict on each text of standard input. A byte 0 ends a text. Before each stands a line with the capacity
+// in nodes, which is not part of the text.
 //
 // The stored output comes from an independent calculation on plain tables and on matrices.
 mod feed;
@@ -13,20 +13,21 @@ const STORE: usize = 32768;
 // 4096 remembered results of four words.
 const CACHE: usize = 16384;
 
-enum Turn {
+// Bytes came, or the input has ended.
+enum AfterRead {
     More(usize),
     End,
 }
 
 // Reads once, and judges the texts that end in what came.
-fn read(text: &mut [u8], store: &mut [u8], cache: &mut [u64], len: usize) -> Turn {
+fn read(text: &mut [u8], store: &mut [u8], cache: &mut [u64], len: usize) -> AfterRead {
     let mut part = io::buffer();
     let got = libc::read(STDIN_FILENO, &mut part);
     if got <= 0 {
-        return Turn::End;
+        return AfterRead::End;
     }
     let n = io::count(got, &part);
-    Turn::More(feed::feed(text, store, cache, len, &part[..n]))
+    AfterRead::More(feed::feed(text, store, cache, len, &part[..n]))
 }
 
 // A proved loop has to end, and nothing says that an input does. So it counts down from a number that no run uses up.
@@ -35,8 +36,8 @@ fn serve(text: &mut [u8], store: &mut [u8], cache: &mut [u64]) {
     let mut turns = u64::MAX;
     while 0 < turns {
         match read(text, store, cache, len) {
-            Turn::More(n) => len = n,
-            Turn::End => return,
+            AfterRead::More(n) => len = n,
+            AfterRead::End => return,
         }
         turns -= 1;
     }

@@ -1,140 +1,243 @@
--- What lets results be shared: one ratio for sum, a mask from the lower top on for cont, a constant operand.
-use mathlib.Core.Path.{_≡_, refl, ap, ap₂, sym, _∙_}
-use mathlib.Core.Bool.{Bool, true, false, cond, _||_}
-use mathlib.Core.Option.{Option, none, some}
-use Prim.Native.Nat.{ℕ, zero, suc, _<_}
+-- Laws of the operation cache: epochs, what is remembered as nodes are added, an entry written, an entry found.
+use mathlib.Core.Path.{_≡_, ap, sym, subst, _∙_, refl}
+use mathlib.Core.Logic.{_⊎_, inl, inr, _≢_}
+use mathlib.Core.List.{List}
+use Prim.Native.Nat.{ℕ, _+_, _*_, _≤_, _-_, _/_, _%_, _<_}
 use native.Mathlib.Omega.{arith}
-use native.Mathlib.Nat.{not-suc-le-zero, le-of-suc-le-suc}
-use Rattle.field.specs.Weight.{Weight, toWeight, 0W, 1W, plusW, timesW, sameW, inverseW, Nonzero}
-use Rattle.field.specs.Ring.{timesW-comm, timesW-assoc, timesW-one, timesW-plus}
-use Rattle.field.specs.Inverse.{inverse}
-use Rattle.diagram.specs.Tensor.{Tensor, weight, split, Bits, tail, same, constant, isZero, scale, times, top, lower, top2, fix, normal, set}
-use Rattle.diagram.specs.Tensor.{members, power2}
-use Rattle.diagram.specs.TensorLaws.{scale-scale, scale-zero, isZero-eq, zero-constant, scale-one, joined-fix, fix-constant, joined-scale, same-eq}
-use Rattle.diagram.specs.TopLaws.{From, from-fix-above, top-constant, top-depends, lowest, induction, induction2}
-use Rattle.diagram.specs.ScaleLaws.{same-scale, normal-scale}
-use Rattle.diagram.specs.Tally.{Set, Step, return, _>>=_, joinCases, join, both, sum, contCases, contBody, cont}
-use Rattle.diagram.specs.Sets.{put-present}
-use Rattle.diagram.specs.StepLaws.{Scaled, scaled-answer, scaled-bind}
-use Rattle.diagram.specs.SumLaws.{sum-scaled}
-use Rattle.diagram.specs.ContLaws.{cont-step, meet-scaled}
-use Rattle.diagram.specs.BitsLaws.{set-same, set-other, set-set, members-none}
-use Rattle.diagram.specs.TestLaws.{or-none}
-use Rattle.diagram.specs.Reach.{Covers, itself, part}
+use native.Mathlib.Decide.{ℕ-discrete}
+use lib.ListN.{length, getD, set, length-set, List·getD-eq-default}
+use lib.Seq.{getD-set-same, getD-set-other}
+use Rattle.diagram.specs.Sets.{PrefixOf}
+use Rattle.diagram.specs.TallyStepLaws.{writes-stable}
+use Rattle.diagram.specs.MeaningLaws.{valid-more, at-kept}
+use Rattle.diagram.specs.Engine.{nodesOf, setOf, tensorOf}
+use Rattle.diagram.specs.EngineLaws.{set-length, sets-prefix, tensor-kept}
+use Rattle.diagram.specs.Cache.{SameEntry, AllEarlier, AllZero, Remembers, LookupEnsures, NoneLater}
+use Rattle.diagram.specs.Cache.{RememberEnsures, keyStep, HasEntry, StableEntry, codeOf, pack, KeyFits, EdgeFits}
+use Rattle.diagram.specs.Cache.{withEntry, ClearLoop}
+use Rattle.diagram.specs.NodeLaws.{edge-eq}
+use Rattle.diagram.specs.declared.node.Edge.{Edge}
+use Rattle.diagram.specs.declared.make.State.{State}
+use Rattle.diagram.specs.declared.cache.Key.{Key}
+use Rattle.diagram.specs.declared.cache.Found.{Found}
+use Rattle.diagram.specs.declared.cache.Found.the-variants.{Hit}
+use Rattle.diagram.specs.declared.cache.Op.{Op}
+use Rattle.diagram.specs.declared.cache.Op.the-variants.{Sum, Contract, Lower}
 
--- sum: one ratio
-pub sum-ratio : {d : ℕ} (a b : Weight) → Nonzero a → (A B : Tensor d) → Scaled a (sum A (scale (timesW (inverseW a) b) B)) (sum (scale a A) (scale b B))
-sum-ratio a b n A B = rw (← ratio) (sum-scaled a n A (scale (timesW (inverseW a) b) B))
+pub lookup-is : {c : List ℕ} {epoch : ℕ} {k : Key} {e : Edge} (f : Found) → LookupEnsures c epoch k f → f ≡ Hit e
+    → HasEntry c epoch k e
+lookup-is {c} {epoch} {k} f l e = subst (LookupEnsures c epoch k) e l
+
+pub all-zero-earlier : {c : List ℕ} → AllZero c → AllEarlier c 1
+all-zero-earlier b = record { is = λ i. omega (arith, b .is (4 * i + 2)) }
+
+pub none-later-earlier : {c : List ℕ} {epoch : ℕ} → NoneLater c epoch → AllEarlier c (epoch + 1)
+none-later-earlier p = record { is = λ i. omega (arith, p .is i) }
+
+pub remembers-nothing : {c : List ℕ} (s : List ℕ) (st : State) → AllEarlier c (st .epoch) → Remembers c s st
+remembers-nothing s st p = record {
+  past = record { is = λ i. omega (arith, p .is i) };
+  entries = λ k e h. absurd (omega (arith, p .is (h .slot), h .when));
+}
+
+-- a stable entry is written
+pub remembers-kept : {c c' s : List ℕ} {st : State} {k : Key} {e : Edge} → Remembers c s st → StableEntry s st k e
+    → RememberEnsures c c' (st .epoch) k e → Remembers c' s st
+remembers-kept {c} {c'} {s} {st} {k} {e} m n w = record {
+  past = record { is = λ i. elim (w .times i) [ inl q ↦ omega (arith, m .past .is i) | inr q ↦ omega arith ] };
+  entries = λ k' e' h. entry k' e' (w .entries (st .epoch) k' e' h);
+}
   where
-    ratio : scale a (scale (timesW (inverseW a) b) B) ≡ scale b B
-    ratio =
-        scale-scale a (timesW (inverseW a) b) B ∙ ap (λ x. scale x B)
-        (sym (timesW-assoc a (inverseW a) b) ∙ rw (timesW-comm a (inverseW a), inverse n) (timesW-one b))
+    entry : (k' : Key) (e' : Edge) → HasEntry c (st .epoch) k' e' ⊎ SameEntry (st .epoch) k e (st .epoch) k' e'
+        → StableEntry s st k' e'
+    entry k' e' (inl h) = m .entries k' e' h
+    entry k' e' (inr h) = rw (h .key, h .result) n
 
--- cont: an index of S on which neither depends, and that is below both tops, is a factor of 2
+-- what is remembered stays right while nodes are put in
+module _ (s s' : List ℕ) (st st' : State) (g : PrefixOf (nodesOf s st) (nodesOf s' st')) where
+  -- nodes keep their tensors, and so a key its step
+  pub key-step-kept : (k : Key) → k .left ≤ st .count → k .right ≤ st .count → keyStep s' st' k ≡ keyStep s st k
+  unfolding keyStep
+  key-step-kept k p q =
+      let t = sets-prefix s s' st st' g in
+      rw (at-kept (k .left) (omega (arith, set-length s st)) t, at-kept (k .right) (omega (arith, set-length s st)) t)
 
-unfoldable pub two : Weight
-two = plusW 1W 1W
+  entry-grown : (k : Key) (e : Edge) → st .count ≤ st' .count → StableEntry s st k e → StableEntry s' st' k e
+  entry-grown k e l n =
+      let same = key-step-kept k (n .left) (n .right) in
+      let w = n .known in
+      let answer : tensorOf s st e ≡ w .0 = ap (λ p. p .0) (sym (n .is) ∙ w .1 .is (setOf s st)) in
+      let again = writes-stable (w .1) (setOf s st) (setOf s' st') (sets-prefix s s' st st' g) (ap (λ p. p .1) (n .is))
+      in
+      record {
+        left = omega (arith, n .left);
+        right = omega (arith, n .right);
+        valid = valid-more _ l (n .valid);
+        known = rw same w;
+        is = rw (same, tensor-kept s s' st st' g (n .valid)) (again ∙ ap (λ T. (T, setOf s' st')) (sym answer));
+      }
 
-pub two-nonzero : Nonzero two
-unfolding two plusW 1W 0W toWeight sameW
-two-nonzero = record { is = refl }
+  pub remembers-more : {c : List ℕ} → st' .epoch ≡ st .epoch → st .count ≤ st' .count → Remembers c s st
+      → Remembers c s' st'
+  remembers-more e l m =
+      record { past = rw e (m .past); entries = λ k f h. entry-grown k f l (m .entries k f (rw e at h)) }
 
-double : {d : ℕ} (c : Weight) (T : Tensor d) → scale (plusW c c) T ≡ scale two (scale c T)
-unfolding two
-double c T =
-    ap (λ x. scale x T)
-    (ap₂ plusW (sym (timesW-one c) ∙ timesW-comm 1W c) (sym (timesW-one c) ∙ timesW-comm 1W c) ∙ sym (timesW-plus c 1W 1W) ∙ timesW-comm c (plusW 1W 1W))
-    ∙ sym (scale-scale (plusW 1W 1W) c T)
+key-eq : {k k' : Key} → k .op ≡ k' .op → k .left ≡ k' .left → k .right ≡ k' .right → k .arg ≡ k' .arg → k ≡ k'
+key-eq p q r u = λ i. record { op = p i; left = q i; right = r i; arg = u i }
 
-members-set : (d j : ℕ) (S : Bits) → j < d → S j ≡ true → members d S ≡ suc (members d (set j false S))
-unfolding members set
-members-set zero j S p e = absurd (not-suc-le-zero p)
-members-set (suc d) zero S p e = rw e
-members-set (suc d) (suc j) S p e = rw (members-set d j (tail S) (le-of-suc-le-suc p) e) (go (S 0) _)
-  where
-    go : (b : Bool) (n : ℕ) → cond b (suc (suc n)) (suc n) ≡ suc (cond b (suc n) n)
-    go true n = refl
-    go false n = refl
+code-eq : (a b : Op) → codeOf a ≡ codeOf b → a ≡ b
+code-eq Sum Sum e = refl
+code-eq Contract Contract e = refl
+code-eq Lower Lower e = refl
+code-eq Sum Contract e = absurd (omega arith)
+code-eq Sum Lower e = absurd (omega arith)
+code-eq Contract Sum e = absurd (omega arith)
+code-eq Contract Lower e = absurd (omega arith)
+code-eq Lower Sum e = absurd (omega arith)
+code-eq Lower Contract e = absurd (omega arith)
 
-both-scaled : {d : ℕ} {c : Weight} (rec rec' : Tensor d → Tensor d → Step d) (k : ℕ) (A B : Tensor d) (final final' : Tensor d → Tensor d → Step d)
-    → ((x : Bool) → Scaled c (rec (fix k x A) (fix k x B)) (rec' (fix k x A) (fix k x B)))
-    → ((L H : Tensor d) → Scaled c (final L H) (final' (scale c L) (scale c H)))
-    → Scaled c (both rec k A B final) (both rec' k A B final')
-unfolding both
-both-scaled rec rec' k A B final final' p q = scaled-bind _ _ (p false) (λ L. scaled-bind _ _ (p true) (λ H. q L H))
+module _ (c : List ℕ) (i k r t v : ℕ) (h : 4 * i + 4 ≤ length c) where
+  entered-length : length (withEntry c i k r t v) ≡ length c
+  unfolding withEntry
+  entered-length = simp length-set
 
-cont-cases-skip : {d : ℕ} (j : ℕ) (z : Bool) (o : Option ℕ) (A B : Tensor d) (S : Bits) → j < d → S j ≡ true → ((k : ℕ) → o ≡ some k → j < k)
-    → ((k : ℕ) (x : Bool) → o ≡ some k → (S : Bits) → S j ≡ true → Scaled two (cont (fix k x A) (fix k x B) (set j false S)) (cont (fix k x A) (fix k x B) S))
-    → Scaled two (contCases z o cont A B (set j false S)) (contCases z o cont A B S)
-unfolding contCases
-cont-cases-skip {d} j true o A B S p e l h = scaled-answer two _ (sym (scale-zero d two))
-cont-cases-skip {d} j false none A B S p e l h = rw (members-set d j S p e) (scaled-answer two _ (unfold power2 in double _ _))
-cont-cases-skip {d} j false (some k) A B S p e l h =
-    let less : j < k = l k refl in
-    let other : set j false S k ≡ S k = set-other k j false S (λ q. omega arith) in
-    let commute : set k false (set j false S) ≡ set j false (set k false S) = set-set k j false false S (λ q. omega arith) in
-    rw (other, commute)
-    (both-scaled (λ A B. cont A B (set j false (set k false S))) (λ A B. cont A B (set k false S)) k A B (cond (S k) sum (join k)) (cond (S k) sum (join k))
-    (λ x. h k x refl (set k false S) (set-other j k false S (λ q. omega arith) ∙ e)) (λ L H. meet-scaled two two-nonzero k (S k) L H))
+  -- word n of entry i
+  abbrev word : ℕ → ℕ
+  word n = getD (withEntry c i k r t v) (4 * i + n) 0
 
-pub cont-skip : {d : ℕ} (j : ℕ) → j < d → (A B : Tensor d) (S : Bits) → From (suc j) A → From (suc j) B → S j ≡ true
-    → Scaled two (cont A B (set j false S)) (cont A B S)
-unfolding contBody
-cont-skip {d} j p = induction2 (λ A B. (S : Bits) → From (suc j) A → From (suc j) B → S j ≡ true → Scaled two (cont A B (set j false S)) (cont A B S))
-    (λ A B h S f g e. rw (cont-step A B S, cont-step A B (set j false S))
-    (cont-cases-skip j (isZero A || isZero B) (top2 A B) A B S p e (λ k t. lowest A B k t .least (suc j) f g)
-    (λ k x t S e.
-    let less : j < k = lowest A B k t .least (suc j) f g in
-    h k x t S (from-fix-above (suc j) k x A less f) (from-fix-above (suc j) k x B less g) e)))
+  abbrev c₁ : List ℕ
+  c₁ = set c (4 * i) k
 
--- cont with a constant, over no index: a scaling, where all that A reaches is in the set
+  abbrev c₂ : List ℕ
+  c₂ = set c₁ (4 * i + 1) r
 
-times-weight : {d : ℕ} (b : Weight) (A : Tensor d) → times A (constant d b) ≡ scale b A
-unfolding times constant scale
-times-weight b (weight w) = ap weight (timesW-comm w b)
-times-weight b (split l h) = ap₂ split (times-weight b l) (times-weight b h)
+  abbrev c₃ : List ℕ
+  c₃ = set c₂ (4 * i + 2) t
 
-both-plain : {d : ℕ} (rec : Tensor d → Tensor d → Step d) (k : ℕ) (A B : Tensor d) (final : Tensor d → Tensor d → Step d) (s : Set d) (L H : Tensor d)
-    → rec (fix k false A) (fix k false B) s ≡ (L, s) → rec (fix k true A) (fix k true B) s ≡ (H, s) → both rec k A B final s ≡ final L H s
-unfolding both _>>=_
-both-plain rec k A B final s L H p q = rw (p, q)
+  entered-0 : getD (withEntry c i k r t v) (4 * i) 0 ≡ k
+  unfolding withEntry
+  entered-0 =
+      getD-set-other c₃ _ _ _ 0 (omega arith) ∙ getD-set-other c₂ _ _ _ 0 (omega arith)
+      ∙ getD-set-other c₁ _ _ _ 0 (omega arith)
+      ∙ getD-set-same c _ _ 0 (omega arith)
 
--- joining the parts of a tensor that is covered puts nothing in
-join-parts : {d : ℕ} (k : ℕ) (b : Weight) → Nonzero b → (A : Tensor d) (s : Set d) → top A ≡ some k → Covers s A
-    → join k (scale b (fix k false A)) (scale b (fix k true A)) s ≡ (scale b A, s)
-unfolding join joinCases
-join-parts k b n A s e c =
-    rw (same-scale b (fix k false A) (fix k true A) n, joined-scale k b (fix k false A) (fix k true A), joined-fix k A)
-    (go (same (fix k false A) (fix k true A)) refl)
-  where
-    go : (t : Bool) → same (fix k false A) (fix k true A) ≡ t → joinCases t (scale b A) s ≡ (scale b A, s)
-    go true t = absurd (top-depends k A e (same-eq _ _ t))
-    go false t = ap (λ x. (scale b A, x)) (rw (normal-scale b A n) (put-present (normal A) s (c .is (normal A) (itself k e refl))))
+  entered-1 : word 1 ≡ r
+  unfolding withEntry
+  entered-1 = getD-set-other c₃ _ _ _ 0 (omega arith) ∙ getD-set-other c₂ _ _ _ 0 (omega arith)
+      ∙ getD-set-same c₁ _ _ 0 (simp length-set (omega arith))
 
-cont-cases-constant : {d : ℕ} (b : Weight) → Nonzero b → (S : Bits) → ((k : ℕ) → S k ≡ false) → (s : Set d) (z : Bool) (o : Option ℕ) (A : Tensor d)
-    → isZero A ≡ z → top A ≡ o → Covers s A
-    → ((k : ℕ) (x : Bool) → o ≡ some k → Covers s (fix k x A) → cont (fix k x A) (constant d b) S s ≡ (scale b (fix k x A), s))
-    → contCases z o cont A (constant d b) S s ≡ (scale b A, s)
-unfolding contCases return power2
-cont-cases-constant {d} b n S m s true o A p e c h = rw (isZero-eq A p, scale-zero d b)
-cont-cases-constant {d} b n S m s false none A p e c h = rw (members-none d S m, times-weight b A) (ap (λ x. (x, s)) (scale-one (scale b A)))
-cont-cases-constant {d} b n S m s false (some k) A p e c h =
-    let parts : (x : Bool) → cont (fix k x A) (fix k x (constant d b)) S s ≡ (scale b (fix k x A), s) = λ x. rw (fix-constant k x d b)
-    (h k x refl (record { is = λ y r. c .is y (part k e x r) })) in
-    rw (set-same k S false (m k), m k) (both-plain (λ A B. cont A B S) k A (constant d b) (join k) s _ _ (parts false) (parts true) ∙ join-parts k b n A s e c)
+  entered-2 : word 2 ≡ t
+  unfolding withEntry
+  entered-2 = getD-set-other c₃ _ _ _ 0 (omega arith) ∙ getD-set-same c₂ _ _ 0 (simp length-set (omega arith))
 
-lower-none : (o : Option ℕ) → lower o none ≡ o
-lower-none none = refl
-lower-none (some k) = refl
+  entered-3 : word 3 ≡ v
+  unfolding withEntry
+  entered-3 = getD-set-same c₃ _ _ 0 (simp length-set (omega arith))
 
-top2-constant : {d : ℕ} (A : Tensor d) (b : Weight) → top2 A (constant d b) ≡ top A
-unfolding top2
-top2-constant {d} A b = rw (top-constant d b) (lower-none (top A))
+  entered-other : (j m : ℕ) → j ≢ i → m < 4 → getD (withEntry c i k r t v) (4 * j + m) 0 ≡ getD c (4 * j + m) 0
+  unfolding withEntry
+  entered-other j m n p =
+      getD-set-other c₃ _ _ _ 0 (omega arith) ∙ getD-set-other c₂ _ _ _ 0 (omega arith)
+      ∙ getD-set-other c₁ _ _ _ 0 (omega arith)
+      ∙ getD-set-other c _ _ _ 0 (omega arith)
 
-pub cont-constant : {d : ℕ} (b : Weight) → Nonzero b → (S : Bits) → ((k : ℕ) → S k ≡ false) → (s : Set d) (A : Tensor d) → Covers s A
-    → cont A (constant d b) S s ≡ (scale b A, s)
-unfolding contBody
-cont-constant {d} b n S m s = induction (λ A. Covers s A → cont A (constant d b) S s ≡ (scale b A, s))
-    (λ A h c. rw (cont-step A (constant d b) S, zero-constant d b, n .is, top2-constant A b, or-none (isZero A))
-    (cont-cases-constant b n S m s (isZero A) (top A) A refl refl c h))
+module _ (c : List ℕ) (i epoch : ℕ) (k : Key) (e : Edge) (inside : 4 * i + 4 ≤ length c) (n : KeyFits k)
+    (f : EdgeFits e) where
+  abbrev result : ℕ
+  result = e .weight * 65536 + e .node
+
+  abbrev c' : List ℕ
+  c' = withEntry c i (pack k) (k .arg) epoch result
+
+  other : (j m : ℕ) → j ≢ i → m < 4 → getD c' (4 * j + m) 0 ≡ getD c (4 * j + m) 0
+  other = entered-other c i (pack k) (k .arg) epoch result inside
+
+  time : (j : ℕ) → Dec (j ≡ i) → (getD c' (4 * j + 2) 0 ≡ getD c (4 * j + 2) 0) ⊎ (getD c' (4 * j + 2) 0 ≡ epoch)
+  time j (yes q) = inr (rw q (entered-2 c i (pack k) (k .arg) epoch result inside))
+  time j (no q) = inl (other j 2 q (omega arith))
+
+  entry : (epoch' : ℕ) (k' : Key) (e' : Edge) (w : HasEntry c' epoch' k' e') → Dec (w .slot ≡ i)
+      → HasEntry c epoch' k' e' ⊎ SameEntry epoch k e epoch' k' e'
+  entry epoch' k' e' w (no q) =
+      let first : 4 * w .slot + 0 ≡ 4 * w .slot = omega arith in
+      inl record {
+        slot = w .slot;
+        inside = omega (arith, w .inside, entered-length c i (pack k) (k .arg) epoch result inside);
+        left = w .left;
+        right = w .right;
+        node = w .node;
+        key = sym (rw first at (other (w .slot) 0 q (omega arith))) ∙ w .key;
+        arg = sym (other (w .slot) 1 q (omega arith)) ∙ w .arg;
+        when = sym (other (w .slot) 2 q (omega arith)) ∙ w .when;
+        result = sym (other (w .slot) 3 q (omega arith)) ∙ w .result;
+      }
+  entry epoch' k' e' w (yes q) =
+      let word : pack k' ≡ pack k = sym (w .key) ∙ ap (λ j. getD c' (4 * j) 0) q
+      ∙ entered-0 c i (pack k) (k .arg) epoch result inside in
+      let arg : k' .arg ≡ k .arg = sym (w .arg) ∙ ap (λ j. getD c' (4 * j + 1) 0) q
+      ∙ entered-1 c i (pack k) (k .arg) epoch result inside in
+      let when : epoch' ≡ epoch = sym (w .when) ∙ ap (λ j. getD c' (4 * j + 2) 0) q
+      ∙ entered-2 c i (pack k) (k .arg) epoch result inside in
+      let same : e' .weight * 65536 + e' .node ≡ result = sym (w .result) ∙ ap (λ j. getD c' (4 * j + 3) 0) q
+      ∙ entered-3 c i (pack k) (k .arg) epoch result inside in
+      let code : codeOf (k' .op) ≡ codeOf (k .op) = omega (arith, word, w .left, w .right, n .left, n .right) in
+      inr record {
+        when = when;
+        key = key-eq (code-eq (k' .op) (k .op) code) (omega (arith, word, w .left, w .right, n .left, n .right))
+            (omega (arith, word, w .left, w .right, n .left, n .right)) arg;
+        result = edge-eq (omega (arith, same, w .node, f .node)) (omega (arith, same, w .node, f .node));
+      }
+
+  kept-entered : RememberEnsures c c' epoch k e
+  kept-entered = record {
+    entries = λ epoch' k' e' w. entry epoch' k' e' w (ℕ-discrete (w .slot) i);
+    times = λ j. time j (ℕ-discrete j i);
+  }
+
+-- as the code comes to them
+
+pub remember-none : (c : List ℕ) (epoch : ℕ) (k : Key) (e : Edge) → RememberEnsures c c epoch k e
+remember-none c epoch k e = record { entries = λ epoch' k' e' h. inl h; times = λ i. inl refl }
+
+pub remember-written : (c : List ℕ) (i w n epoch : ℕ) (k : Key) (e : Edge) → 4 * i + 4 ≤ length c → KeyFits k
+    → EdgeFits e → w ≡ pack k → n ≡ e .node
+    → RememberEnsures c (set (set (set (set c (4 * i) w) (4 * i + 1) (k .arg)) (4 * i + 2) epoch) (4 * i + 3)
+    (e .weight * 65536 + n)) epoch k e
+unfolding withEntry
+remember-written c i w n epoch k e h q f u v = rw (u, v) (kept-entered c i epoch k e h q f)
+
+pub entry-found : (c : List ℕ) (i w n epoch : ℕ) (k : Key) → 4 * i + 4 ≤ length c → KeyFits k → w ≡ pack k
+    → getD c (4 * i) 0 ≡ w → getD c (4 * i + 1) 0 ≡ k .arg → getD c (4 * i + 2) 0 ≡ epoch
+    → n ≡ getD c (4 * i + 3) 0 % 65536
+    → HasEntry c epoch k (record { weight = getD c (4 * i + 3) 0 / 65536; node = n })
+entry-found c i w n epoch k h q u p p' p'' v = record {
+  slot = i;
+  inside = h;
+  left = q .left;
+  right = q .right;
+  node = omega arith;
+  key = p ∙ u;
+  arg = p';
+  when = p'';
+  result = omega arith;
+}
+
+pub clear-start : (c : List ℕ) → ClearLoop c c 0
+clear-start c = record { long = refl; is = λ j p. absurd (omega arith) }
+
+pub clear-on : {c₀ c : List ℕ} {i : ℕ} → i < length c → ClearLoop c₀ c i → ClearLoop c₀ (set c i 0) (i + 1)
+clear-on {c = c} {i} p h = record {
+  long = simp length-set (h .long);
+  is = λ j q. elim (ℕ-discrete j i) [
+    | yes e ↦ ap (λ k. getD (set c i 0) k 0) e ∙ getD-set-same c i 0 0 p
+    | no d ↦ getD-set-other c i j 0 0 d ∙ h .is j (omega arith)
+  ];
+}
+
+pub clear-end : {c₀ c : List ℕ} {i : ℕ} → length c ≤ i → ClearLoop c₀ c i → AllZero c
+clear-end {c = c} {i} p h = record {
+  is = λ j. elim (ℕ-discrete (length c - j) 0) [
+    | yes e ↦ List·getD-eq-default c 0 {n = j} (omega arith)
+    | no d ↦ h .is j (omega arith)
+  ];
+}

@@ -1,194 +1,44 @@
--- What collect keeps, in document 01's words and along the tops; that it keeps all that the document names, in order.
-use mathlib.Core.Path.{_≡_, refl, ap, sym, subst, _∙_}
-use mathlib.Core.Bool.{Bool, true, false, cond, _&&_, _||_, false≢true}
-use mathlib.Core.List.{List, [], _∷_, _++_, Sublistᴰ, Sublistᴰ·slnil, Sublistᴰ·cons, Sublistᴰ·cons-cons}
-use mathlib.Core.Option.{Option, none, some}
-use Prim.Native.Nat.{ℕ, zero, suc, _<_}
-use native.Mathlib.Omega.{arith}
-use lib.Dec.{eqb}
-use borrow.Author.Tests.{eqb-true, eqb-false}
-use Rattle.diagram.specs.Tensor.{Tensor, same, top, fix, normal}
-use Rattle.diagram.specs.TensorLaws.{same-eq, eq-same, same-refl}
-use Rattle.diagram.specs.TestLaws.{cases, or-cases, or-left, or-right, or-assoc}
-use Rattle.diagram.specs.Tally.{Set, member, fixBoth, fixed, normalAt, normals, keeps, within, collect}
-use Rattle.diagram.specs.Reach.{Reached, Covers, Got, start, more, Cofactor, reached-cofactor, cofactor-reached}
+-- A collection (document 01, `collect`): what it asks and what it leaves.
+use mathlib.Core.Path.{_≡_}
+use mathlib.Core.Logic.{_≢_}
+use mathlib.Core.List.{List}
+use Prim.Native.Nat.{ℕ, _≤_}
+use Rattle.diagram.specs.Tally.{collect, filled}
+use Rattle.diagram.specs.Node.{nodeAt, listed}
+use Rattle.diagram.specs.Engine.{setOf, Sound}
+use Rattle.diagram.specs.Cache.{NoneLater, AllEarlier}
+use Rattle.diagram.specs.Compact.{newNumber, survivors, MarksClosed, renumberRegisters}
+use Rattle.diagram.specs.Mark.{AllMarked}
+use Rattle.diagram.specs.Registers.{holdsAll, weightsOf, edgesOf, RegistersValid}
+use Rattle.diagram.specs.declared.make.State.{State}
+use Rattle.diagram.specs.declared.registers.Register.{Register}
 
--- membership
+-- "a collection closes the gaps and preserves order, so freed places are used again": the nodes that the registers rs
+-- lead to have moved down, k of them; rs' are the registers with their new numbers
+pub record SweepEnsures (count : ℕ) (rs : List Register) (s s' : List ℕ) (k : ℕ) (rs' : List Register) : Type 0 where
+  pub marks : ℕ → ℕ
+  pub all : AllMarked marks (edgesOf rs)
+  pub closed : MarksClosed marks (nodeAt s) count
+  pub least : (b : ℕ → ℕ) → AllMarked b (edgesOf rs) → MarksClosed b (nodeAt s) count → (n : ℕ) → 1 ≤ n → n ≤ count
+      → marks n ≢ 0 → b n ≢ 0
+  pub counted : k ≡ newNumber marks count
+  pub moved : listed (nodeAt s') k ≡ survivors marks (nodeAt s) count
+  pub registers : rs' ≡ renumberRegisters (newNumber marks) rs
 
-pub member-or : {d : ℕ} (x : Tensor d) (s t : Set d) → member x (s ++ t) ≡ (member x s || member x t)
-unfolding member
-member-or x [] t = refl
-member-or x (y ∷ s) t = rw (member-or x s t) (or-assoc (same x y) (member x s) (member x t))
+-- what a collection needs: a sound store, registers of it, and a cache with no entry of a later epoch
+pub record CollectRequires (c s : List ℕ) (st : State) (rs : List Register) : Type 0 where
+  pub sound : Sound s st
+  pub past : NoneLater c (st .epoch)
+  pub registers : RegistersValid (st .count) rs
 
--- "the normal multiples of the nonconstant tensors got from" those of the list "by fixing indices 0 to j-1", for j below n
-pub record Kept {d : ℕ} (n : ℕ) (filled : List (Tensor d)) (x : Tensor d) : Type 0 where
-  pub register : Tensor d
-  pub held : member register filled ≡ true
-  pub cofactor : Cofactor n register x
-
--- the definition of `keeps` says this, both ways
-
-module _ {d : ℕ} where
-  in-both : (k : ℕ) (l : List (Tensor d)) (C : Tensor d) → member C (fixBoth k l) ≡ true
-      → (B : Tensor d) × (member B l ≡ true) × ((b : Bool) × (fix k b B ≡ C))
-  unfolding member fixBoth
-  in-both k [] C e = absurd (false≢true e)
-  in-both k (T ∷ l) C e =
-      or-cases (same C (fix k false T)) _ e
-      (λ e. (T, or-left (same T T) _ (same-refl T), (false, sym (same-eq _ _ e))))
-      (λ e. or-cases (same C (fix k true T)) _ e
-      (λ e. (T, or-left (same T T) _ (same-refl T), (true, sym (same-eq _ _ e))))
-      (λ e. let r = in-both k l C e in (r .0, or-right (same (r .0) T) _ (r .1), r .2)))
-
-  both-in : (k : ℕ) (l : List (Tensor d)) (B : Tensor d) (b : Bool) → member B l ≡ true → member (fix k b B) (fixBoth k l) ≡ true
-  unfolding member fixBoth
-  both-in k [] B b e = e
-  both-in k (T ∷ l) B b e =
-      or-cases (same B T) _ e (λ q. here b (same-eq B T q))
-      (λ q. or-right (same (fix k b B) (fix k false T)) _ (or-right (same (fix k b B) (fix k true T)) _ (both-in k l B b q)))
-    where
-      here : (b : Bool) → B ≡ T
-          → (same (fix k b B) (fix k false T) || (same (fix k b B) (fix k true T) || member (fix k b B) (fixBoth k l))) ≡ true
-      here false q = or-left (same (fix k false B) (fix k false T)) _ (eq-same (ap (fix k false) q))
-      here true q =
-          or-right (same (fix k true B) (fix k false T)) _ (or-left (same (fix k true B) (fix k true T)) _ (eq-same (ap (fix k true) q)))
-
-  fixed-got : (j : ℕ) (l : List (Tensor d)) (C : Tensor d) → member C (fixed j l) ≡ true → (T : Tensor d) × (member T l ≡ true) × Got T j C
-  unfolding fixed
-  fixed-got zero l C e = (C, e, start)
-  fixed-got (suc j) l C e =
-      let r = in-both j (fixed j l) C e in
-      let g = fixed-got j l (r .0) (r .1) in
-      (g .0, g .1, rw (r .2 .1) at (more (g .2) (r .2 .0)))
-
-  got-fixed : (l : List (Tensor d)) (T : Tensor d) → member T l ≡ true → (j : ℕ) (C : Tensor d) → Got T j C → member C (fixed j l) ≡ true
-  unfolding fixed
-  got-fixed l T e j C start = e
-  got-fixed l T e j C (more {j = i} {C = B} g b) = both-in i (fixed i l) B b (got-fixed l T e i B g)
-
-  abbrev NormalOf : List (Tensor d) → Tensor d → Type 0
-  NormalOf l x = (C : Tensor d) × (member C l ≡ true) × ((k : ℕ) × (top C ≡ some k) × (x ≡ normal C))
-
-  in-normals : (l : List (Tensor d)) (x : Tensor d) → member x (normals l) ≡ true → NormalOf l x
-  unfolding member normals normalAt
-  in-normals [] x e = absurd (false≢true e)
-  in-normals (T ∷ l) x e = go (top T) refl e (in-normals l x)
-    where
-      go : (o : Option ℕ) → top T ≡ o → member x (normalAt o T ++ normals l) ≡ true → (member x (normals l) ≡ true → NormalOf l x) → NormalOf (T ∷ l) x
-      go none t e ih = let r = ih e in (r .0, or-right (same (r .0) T) _ (r .1), r .2)
-      go (some k) t e ih =
-          or-cases (same x (normal T)) _ e
-          (λ q. (T, or-left (same T T) _ (same-refl T), (k, t, same-eq _ _ q)))
-          (λ q. let r = ih q in (r .0, or-right (same (r .0) T) _ (r .1), r .2))
-
-  normals-in : (l : List (Tensor d)) (C : Tensor d) (k : ℕ) → member C l ≡ true → top C ≡ some k → member (normal C) (normals l) ≡ true
-  unfolding member normals normalAt
-  normals-in [] C k e t = e
-  normals-in (T ∷ l) C k e t =
-      rw (member-or (normal C) (normalAt (top T) T) (normals l))
-      (or-cases (same C T) _ e
-      (λ q. or-left _ _ (here (same-eq C T q)))
-      (λ q. or-right (member (normal C) (normalAt (top T) T)) _ (normals-in l C k q t)))
-    where
-      here : C ≡ T → member (normal C) (normalAt (top T) T) ≡ true
-      here q = rw (← q, t) (or-left _ _ (same-refl (normal C)))
-
-  cofactor-more : (m n : ℕ) (T x : Tensor d) (c : Cofactor m T x) → c .j < n → Cofactor n T x
-  cofactor-more m n T x c p =
-      record { j = c .j; less = p; tensor = c .tensor; got = c .got; index = c .index; depends = c .depends; is = c .is }
-
-  pub keeps-kept : (n : ℕ) (l : List (Tensor d)) (x : Tensor d) → member x (keeps n l) ≡ true → Kept n l x
-  unfolding keeps
-  keeps-kept zero l x e = absurd (false≢true (unfold member in e))
-  keeps-kept (suc n) l x e =
-      or-cases (member x (keeps n l)) _ (sym (member-or x (keeps n l) (normals (fixed n l))) ∙ e) (λ e. later (keeps-kept n l x e)) now
-    where
-      later : Kept n l x → Kept (suc n) l x
-      later k = record { register = k .register; held = k .held; cofactor = cofactor-more n (suc n) _ _ (k .cofactor) (omega (arith, k .cofactor .less)) }
-
-      now : member x (normals (fixed n l)) ≡ true → Kept (suc n) l x
-      now e =
-          let r = in-normals (fixed n l) x e in
-          let g = fixed-got n l (r .0) (r .1) in
-          record {
-            register = g .0;
-            held = g .1;
-            cofactor = record { j = n; less = omega arith; tensor = r .0; got = g .2; index = r .2 .0; depends = r .2 .1; is = r .2 .2 };
-          }
-
-  pub kept-keeps : (n : ℕ) (l : List (Tensor d)) (x : Tensor d) → Kept n l x → member x (keeps n l) ≡ true
-  unfolding keeps
-  kept-keeps zero l x k = absurd (omega (arith, k .cofactor .less))
-  kept-keeps (suc n) l x k =
-      rw member-or (cases (eqb (k .cofactor .j) n) now (λ q. or-left _ _ (kept-keeps n l x (earlier (eqb-false (k .cofactor .j) n q)))))
-    where
-      c : Cofactor (suc n) (k .register) x
-      c = k .cofactor
-
-      now : eqb (c .j) n ≡ true → (member x (keeps n l) || member x (normals (fixed n l))) ≡ true
-      now q =
-          let got : Got (k .register) n (c .tensor) = subst (λ i. Got (k .register) i (c .tensor)) (eqb-true (c .j) n q) (c .got) in
-          let here = got-fixed l (k .register) (k .held) n (c .tensor) got in
-          or-right (member x (keeps n l)) _ (rw (c .is) (normals-in (fixed n l) (c .tensor) (c .index) here (c .depends)))
-
-      earlier : (c .j ≡ n → ⊥) → Kept n l x
-      earlier ne = record { register = k .register; held = k .held; cofactor = cofactor-more (suc n) n _ _ c (omega (arith, c .less, ne)) }
-
-  -- the same along the tops
-  pub keeps-reached : (l : List (Tensor d)) (x : Tensor d) → member x (keeps d l) ≡ true → (T : Tensor d) × (member T l ≡ true) × Reached x T
-  keeps-reached l x e = let k = keeps-kept d l x e in (k .register, k .held, cofactor-reached d x (k .register) (k .cofactor))
-
-  pub reached-keeps : (l : List (Tensor d)) (x T : Tensor d) → member T l ≡ true → Reached x T → member x (keeps d l) ≡ true
-  reached-keeps l x T e r = kept-keeps d l x (record { register = T; held = e; cofactor = reached-cofactor x T r })
-
-  -- the filter
-
-  within-member : (l : List (Tensor d)) (s : Set d) (x : Tensor d) → member x (within l s) ≡ (member x l && member x s)
-  unfolding member within
-  within-member l [] x = none (member x l)
-    where
-      none : (b : Bool) → false ≡ (b && false)
-      none true = refl
-      none false = refl
-  within-member l (y ∷ s) x = go (member y l) refl (same x y) refl (within-member l s x)
-    where
-      go : (b : Bool) → member y l ≡ b → (c : Bool) → same x y ≡ c → member x (within l s) ≡ (member x l && member x s)
-          → member x (cond b (y ∷ within l s) (within l s)) ≡ (member x l && (c || member x s))
-      go true p true q ih = rw q (sym (rw (same-eq x y q, p) refl))
-      go true p false q ih = rw q ih
-      go false p true q ih = ih ∙ (rw (same-eq x y q, p) refl)
-      go false p false q ih = ih
-
-  within-sublist : (l : List (Tensor d)) (s : Set d) → Sublistᴰ (within l s) s
-  unfolding within
-  within-sublist l [] = Sublistᴰ·slnil
-  within-sublist l (x ∷ s) = one (member x l) (within-sublist l s)
-    where
-      one : (b : Bool) → Sublistᴰ (within l s) s → Sublistᴰ (cond b (x ∷ within l s) (within l s)) (x ∷ s)
-      one true h = Sublistᴰ·cons-cons refl h
-      one false h = Sublistᴰ·cons h
-
-  -- a tensor is in the set after a collection exactly when the document keeps it and it was there
-  pub collect-member : (filled : List (Tensor d)) (s : Set d) (x : Tensor d)
-      → member x (collect filled s) ≡ (member x (keeps d filled) && member x s)
-  unfolding collect
-  collect-member filled s x = within-member (keeps d filled) s x
-
-  -- "a collection closes the gaps and preserves order"
-  pub collect-sublist : (filled : List (Tensor d)) (s : Set d) → Sublistᴰ (collect filled s) s
-  unfolding collect
-  collect-sublist filled s = within-sublist (keeps d filled) s
-
-  -- where the set has all that the filled registers reach, "the set keeps exactly" what the document names
-  pub collect-exactly : (filled : List (Tensor d)) (s : Set d) → ((T : Tensor d) → member T filled ≡ true → Covers s T)
-      → (x : Tensor d) → member x (collect filled s) ≡ member x (keeps d filled)
-  collect-exactly filled s c x = collect-member filled s x ∙ go (member x (keeps d filled)) refl
-    where
-      go : (b : Bool) → member x (keeps d filled) ≡ b → (b && member x s) ≡ b
-      go true e = let r = keeps-reached filled x e in c (r .0) (r .1) .is x (r .2)
-      go false e = refl
-
-  -- .. and still has it
-  pub collect-covers : (filled : List (Tensor d)) (s : Set d) (T : Tensor d) → member T filled ≡ true → Covers s T → Covers (collect filled s) T
-  collect-covers filled s T e c =
-      record { is = λ x r. collect-member filled s x ∙ rw (reached-keeps filled x T e r) (c .is x r) }
+-- What it leaves. "collect: the set keeps exactly the normal multiples of the nonconstant tensors got from filled
+-- registers by fixing indices 0 to j-1, for j from 0 to 23." The registers hold the tensors that they held, with the
+-- weights that they had. "A remembered result made before a collection .. is never used": nothing is remembered
+-- afterwards, no entry is of the epoch.
+pub record CollectEnsures (c' s s' : List ℕ) (st st' : State) (rs rs' : List Register) : Type 0 where
+  pub sound : Sound s' st'
+  pub forgotten : AllEarlier c' (st' .epoch)
+  pub registers : RegistersValid (st' .count) rs'
+  pub weights : weightsOf rs' ≡ weightsOf rs
+  pub same : holdsAll (setOf s' st') rs' ≡ holdsAll (setOf s st) rs
+  pub set : setOf s' st' ≡ collect (filled (holdsAll (setOf s st) rs)) (setOf s st)

@@ -1,25 +1,13 @@
 -- Comparing two tensors (document 01, `cmp`), and two edges of one store.
-use mathlib.Core.Path.{_≡_, refl, ap, ap₂, sym, _∙_}
-use mathlib.Core.Logic.{_≢_, _⊎_, inl, inr}
-use mathlib.Core.Bool.{Bool, true, false, cond, _&&_, not, true≢false}
+use mathlib.Core.Path.{_≡_}
+use mathlib.Core.Logic.{_≢_}
+use mathlib.Core.Bool.{cond, _&&_, not}
 use mathlib.Core.List.{List}
 use Prim.Native.Nat.{ℕ, _<_}
-use native.Mathlib.Decide.{ℕ-discrete}
-use lib.ListN.{length}
-use Rattle.field.specs.Weight.{modulus, Weight, toWeight, 0W, 1W, timesW, inverseW, Nonzero}
-use Rattle.field.specs.Ring.{weight-number, number-weight, not-zero, nonzero-weight, timesW-comm, timesW-assoc, timesW-one}
-use Rattle.field.specs.Inverse.{inverse, times-nonzero, inverse-nonzero}
-use Rattle.field.specs.Code.{Stands}
-use Rattle.diagram.specs.Tensor.{Tensor, same, constant, isZero, scale, first, indices}
-use Rattle.diagram.specs.TensorLaws.{same-eq, eq-same, scale-scale, scale-zero, zero-scale, isZero-eq, isZero-constant}
-use Rattle.diagram.specs.ScaleLaws.{cases, isZero-scale, first-scale, first-nonzero, unique-tensor}
-use Rattle.diagram.specs.Grow.{grow, grow-same, grow-isZero, grow-first, grow-scale}
-use Rattle.diagram.specs.Meaning.{tensorAt, edgeIn, tensors, Valid}
-use Rattle.diagram.specs.Node.{edge-eq}
-use Rattle.diagram.specs.Canonical.{Canonical}
-use Rattle.diagram.specs.CanonicalLaws.{node-first, edge-is-zero, edge-zero-weight, edge-unique}
-use Rattle.diagram.specs.Engine.{nodesOf, setOf, tensorOf, nodes-length, Sound}
-use Rattle.diagram.specs.declared.node.Node.{Node}
+use Rattle.field.specs.Weight.{modulus, Weight, toWeight, timesW, inverseW, Nonzero}
+use Rattle.diagram.specs.Tensor.{Tensor, same, isZero, scale, first}
+use Rattle.diagram.specs.Meaning.{Valid}
+use Rattle.diagram.specs.Engine.{tensorOf, Sound}
 use Rattle.diagram.specs.declared.node.Edge.{Edge}
 use Rattle.diagram.specs.declared.make.State.{State}
 use Rattle.diagram.specs.declared.compare.Comparison.{Comparison}
@@ -29,7 +17,8 @@ use Rattle.diagram.specs.declared.compare.Comparison.the-variants.{Same,
 unfoldable pub ratio : {d : ℕ} → Tensor d → Tensor d → Weight
 ratio A B = timesW (first A) (inverseW (first B))
 
--- "answers `same`; or `factor` and f where a is f times b, f not 0 or 1; else `differ`. Zero against nonzero is `differ`."
+-- "answers `same`; or `factor` and f where a is f times b, f not 0 or 1; else `differ`. Zero against nonzero is
+-- `differ`."
 unfoldable pub compared : {d : ℕ} → Tensor d → Tensor d → Comparison
 compared A B =
     cond (same A B) Same
@@ -37,175 +26,22 @@ compared A B =
     Differ)
 
 -- what each answer says
-pub record Apart {d : ℕ} (A B : Tensor d) : Type 0 where
+pub record NoMultiple {d : ℕ} (A B : Tensor d) : Type 0 where
   pub differ : A ≢ B
   pub multiple : (f : Weight) → Nonzero f → A ≢ scale f B
 
-pub record Multiple {d : ℕ} (f : ℕ) (A B : Tensor d) : Type 0 where
+pub record IsFactor {d : ℕ} (f : ℕ) (A B : Tensor d) : Type 0 where
   pub differ : A ≢ B
   pub small : f < modulus
   pub nonzero : Nonzero (toWeight f)
   pub is : A ≡ scale (toWeight f) B
 
-abbrev pub Says : {d : ℕ} → Tensor d → Tensor d → Comparison → Type 0
-Says A B Same = A ≡ B
-Says A B (Factor f) = Multiple f A B
-Says A B Differ = Apart A B
-
-module _ {d : ℕ} (A B : Tensor d) where
-  -- where the tensors stand so, the answer is so
-
-  pub compared-same : A ≡ B → compared A B ≡ Same
-  unfolding compared
-  compared-same e = rw (eq-same e)
-
-  not-same : A ≢ B → same A B ≡ false
-  not-same n = cases (same A B) (λ e. absurd (n (same-eq A B e))) (λ e. e)
-
-  pub ratio-is : (f : Weight) → isZero B ≡ false → Nonzero f → A ≡ scale f B → ratio A B ≡ f
-  unfolding ratio
-  ratio-is f z n e =
-      rw (e, first-scale f B n) (timesW-assoc f (first B) (inverseW (first B))
-      ∙ ap (timesW f) (timesW-comm (first B) (inverseW (first B)) ∙ inverse (first-nonzero B z)) ∙ timesW-comm f 1W ∙ timesW-one f)
-
-  pub compared-factor : (f : Weight) → A ≢ B → Nonzero f → A ≡ scale f B → compared A B ≡ Factor (f .number)
-  unfolding compared
-  compared-factor f ne n e =
-      let z : isZero B ≡ false = cases (isZero B) (λ z. absurd (ne (e ∙ zero-part f z ∙ sym (isZero-eq B z)))) (λ z. z) in
-      let y : isZero A ≡ false = ap isZero e ∙ isZero-scale f B n ∙ z in
-      rw (not-same ne, y, ratio-is f z n e, eq-same e)
-    where
-      zero-part : (f : Weight) → isZero B ≡ true → scale f B ≡ constant d 0W
-      zero-part f z = ap (scale f) (isZero-eq B z) ∙ scale-zero d f
-
-  ratio-nonzero : isZero A ≡ false → A ≡ scale (ratio A B) B → Nonzero (ratio A B)
-  ratio-nonzero y e = not-zero (ratio A B) (λ o. true≢false (sym (ap isZero (e ∙ ap (λ f. scale f B) o ∙ zero-scale B) ∙ isZero-constant d) ∙ y))
-
-  pub compared-differ : Apart A B → compared A B ≡ Differ
-  unfolding compared
-  compared-differ p = rw (not-same (p .differ)) (go (isZero A) refl (same A (scale (ratio A B) B)) refl)
-    where
-      go : (z : Bool) → isZero A ≡ z → (t : Bool) → same A (scale (ratio A B) B) ≡ t → cond (not z && t) (Factor (ratio A B .number)) Differ ≡ Differ
-      go true y t e = refl
-      go false y false e = refl
-      go false y true e = absurd (p .multiple (ratio A B) (ratio-nonzero y (same-eq _ _ e)) (same-eq _ _ e))
-
-  -- and only there
-  pub compared-says : Says A B (compared A B)
-  unfolding compared
-  compared-says = go (same A B) refl (isZero A) refl (same A (scale (ratio A B) B)) refl
-    where
-      differ : same A B ≡ false → A ≢ B
-      differ p e = true≢false (sym (eq-same e) ∙ p)
-
-      both-zero : (f : Weight) → same A B ≡ false → isZero A ≡ true → Nonzero f → A ≢ scale f B
-      both-zero f p y n e = differ p (isZero-eq A y ∙ sym (isZero-eq B (sym (isZero-scale f B n) ∙ ap isZero (sym e) ∙ y)))
-
-      not-ratio : (f : Weight) → isZero A ≡ false → same A (scale (ratio A B) B) ≡ false → Nonzero f → A ≢ scale f B
-      not-ratio f y q n e =
-          let r : ratio A B ≡ f = ratio-is f (sym (isZero-scale f B n) ∙ ap isZero (sym e) ∙ y) n e in
-          true≢false (sym (eq-same (e ∙ ap (λ c. scale c B) (sym r))) ∙ q)
-
-      go : (s : Bool) → same A B ≡ s → (z : Bool) → isZero A ≡ z → (t : Bool) → same A (scale (ratio A B) B) ≡ t
-          → Says A B (cond s Same (cond (not z && t) (Factor (ratio A B .number)) Differ))
-      go true p z y t q = same-eq A B p
-      go false p true y t q = record { differ = differ p; multiple = λ f. both-zero f p y }
-      go false p false y false q = record { differ = differ p; multiple = λ f. not-ratio f y q }
-      go false p false y true q =
-          let e : A ≡ scale (ratio A B) B = same-eq _ _ q in
-          record {
-            differ = differ p;
-            small = ratio A B .small;
-            nonzero = rw (weight-number (ratio A B)) (ratio-nonzero y e);
-            is = rw (weight-number (ratio A B)) e;
-          }
+abbrev pub ComparisonMeans : {d : ℕ} → Tensor d → Tensor d → Comparison → Type 0
+ComparisonMeans A B Same = A ≡ B
+ComparisonMeans A B (Factor f) = IsFactor f A B
+ComparisonMeans A B Differ = NoMultiple A B
 
 -- r is how the tensors of a and b compare, in each store that has them
-pub record Compares (a b : Edge) (r : Comparison) : Type 0 where
-  pub is : (s : List ℕ) (st : State) → Sound s st → Valid (st .count) a → Valid (st .count) b → compared (tensorOf s st a) (tensorOf s st b) ≡ r
-
--- two edges of a sound list of nodes
-
-module _ (d : ℕ) (xs : List Node) (s : Canonical d xs) {a b : Edge} (va : Valid (length xs) a) (vb : Valid (length xs) b) where
-  abbrev A : Tensor d
-  A = edgeIn (tensors d xs) a
-
-  abbrev B : Tensor d
-  B = edgeIn (tensors d xs) b
-
-  nodes-differ : a .node ≢ b .node → Apart A B
-  unfolding edgeIn
-  nodes-differ n = record { differ = λ e. n (ap (λ (x : Edge). x .node) (edge-unique d xs s va vb e)); multiple = λ f z e. n (one-node f z e) }
-    where
-      one-node : (f : Weight) → Nonzero f → A ≡ scale f B → a .node ≡ b .node
-      one-node f m e = go (ℕ-discrete (a .weight) 0) (ℕ-discrete (b .weight) 0)
-        where
-          zeros : isZero A ≡ isZero B
-          zeros = ap isZero e ∙ isZero-scale f B m
-
-          go : Dec (a .weight ≡ 0) → Dec (b .weight ≡ 0) → a .node ≡ b .node
-          go (yes p) q = va .zero p ∙ sym (vb .zero (edge-zero-weight d xs s b vb (sym zeros ∙ edge-is-zero d xs s a p)))
-          go (no p) (yes q) = absurd (p (edge-zero-weight d xs s a va (zeros ∙ edge-is-zero d xs s b q)))
-          go (no p) (no q) =
-              s .unique _ _ (va .within) (vb .within)
-              (unique-tensor _ _ _ _ (nonzero-weight _ (va .small) p) (times-nonzero m (nonzero-weight _ (vb .small) q))
-              (node-first d xs s (a .node) (va .within)) (node-first d xs s (b .node) (vb .within)) (e ∙ scale-scale f _ _))
-
-  weights-differ : a .weight ≢ b .weight → A ≢ B
-  weights-differ n e = n (ap (λ (x : Edge). x .weight) (edge-unique d xs s va vb e))
-
-  zero-differs : a .weight ≢ b .weight → (a .weight ≡ 0) ⊎ (b .weight ≡ 0) → Apart A B
-  zero-differs n z = record { differ = weights-differ n; multiple = λ f m e. n (go (ap isZero e ∙ isZero-scale f B m) z) }
-    where
-      go : isZero A ≡ isZero B → (a .weight ≡ 0) ⊎ (b .weight ≡ 0) → a .weight ≡ b .weight
-      go e (inl p) = p ∙ sym (edge-zero-weight d xs s b vb (sym e ∙ edge-is-zero d xs s a p))
-      go e (inr q) = edge-zero-weight d xs s a va (e ∙ edge-is-zero d xs s b q) ∙ sym q
-
-  factor-of : (f : ℕ) → a .node ≡ b .node → b .weight ≢ 0 → toWeight f ≡ timesW (toWeight (a .weight)) (inverseW (toWeight (b .weight)))
-      → A ≡ scale (toWeight f) B
-  unfolding edgeIn
-  factor-of f one n q =
-      let back : timesW (toWeight f) (toWeight (b .weight)) ≡ toWeight (a .weight) =
-      rw q (timesW-assoc _ _ _ ∙ ap (timesW _) (inverse (nonzero-weight (b .weight) (vb .small) n)) ∙ timesW-comm _ 1W ∙ timesW-one _) in
-      sym (scale-scale _ _ _ ∙ ap₂ (λ w m. scale w (tensorAt (tensors d xs) m)) back (sym one))
-
--- the answers, as the code comes to them
-
-pub stands-ratio : (v w i : ℕ) {r : ℕ} → Stands i (inverseW (toWeight w)) → Stands r (timesW (toWeight v) (toWeight i))
-    → Stands r (timesW (toWeight v) (inverseW (toWeight w)))
-stands-ratio v w i p q = record { small = q .small; is = q .is ∙ ap (timesW (toWeight v)) (p .is) }
-
-module _ {a b : Edge} where
-  in-store : {r : Comparison}
-      → ((d : ℕ) (xs : List Node) → Canonical d xs → Valid (length xs) a → Valid (length xs) b
-      → compared (edgeIn (tensors d xs) a) (edgeIn (tensors d xs) b) ≡ r)
-      → Compares a b r
-  unfolding tensorOf setOf
-  in-store f = record { is = λ s st h va vb. f indices (nodesOf s st) (h .nodes) (rw (nodes-length s st) va) (rw (nodes-length s st) vb) }
-
-  pub compares-nodes : a .node ≢ b .node → Compares a b Differ
-  compares-nodes n = in-store (λ d xs s va vb. compared-differ _ _ (nodes-differ d xs s va vb n))
-
-  pub compares-same : a .node ≡ b .node → a .weight ≡ b .weight → Compares a b Same
-  compares-same m w = in-store (λ d xs s va vb. compared-same _ _ (ap (edgeIn (tensors d xs)) (edge-eq w m)))
-
-  pub compares-zero : a .weight ≢ b .weight → (a .weight ≡ 0) ⊎ (b .weight ≡ 0) → Compares a b Differ
-  compares-zero n z = in-store (λ d xs s va vb. compared-differ _ _ (zero-differs d xs s va vb n z))
-
-  pub compares-factor : {f : ℕ} → a .node ≡ b .node → a .weight ≢ b .weight → a .weight ≢ 0 → b .weight ≢ 0
-      → Stands f (timesW (toWeight (a .weight)) (inverseW (toWeight (b .weight)))) → Compares a b (Factor f)
-  compares-factor {f} one n z y q = in-store (λ d xs c va vb. factor d xs c va vb)
-    where
-      factor : (d : ℕ) (xs : List Node) → Canonical d xs → Valid (length xs) a → Valid (length xs) b
-          → compared (edgeIn (tensors d xs) a) (edgeIn (tensors d xs) b) ≡ Factor f
-      factor d xs c va vb =
-          let nonzero : Nonzero (toWeight f) =
-          rw (q .is) (times-nonzero (nonzero-weight _ (va .small) z) (inverse-nonzero (nonzero-weight _ (vb .small) y))) in
-          compared-factor _ _ (toWeight f) (weights-differ d xs c va vb n) nonzero (factor-of d xs c va vb f one y (q .is))
-          ∙ ap Factor (number-weight f (q .small))
-
--- with more indices the answer is the same
-pub grow-compared : {d : ℕ} (m : ℕ) (A B : Tensor d) → compared (grow m A) (grow m B) ≡ compared A B
-unfolding compared ratio
-grow-compared m A B =
-    rw (grow-same m A B, grow-isZero m A, grow-first m A, grow-first m B, grow-scale m (timesW (first A) (inverseW (first B))) B, grow-same m A (scale (timesW (first A) (inverseW (first B))) B))
+pub record CompareEnsures (a b : Edge) (r : Comparison) : Type 0 where
+  pub is : (s : List ℕ) (st : State) → Sound s st → Valid (st .count) a → Valid (st .count) b
+      → compared (tensorOf s st a) (tensorOf s st b) ≡ r

@@ -1,43 +1,193 @@
--- What a node store needs: the first value and the parts of a joined tensor.
-use mathlib.Core.Path.{_≡_, refl, ap, sym, _∙_}
-use mathlib.Core.Bool.{true, false, cond}
-use Prim.Native.Nat.{ℕ, zero, suc, _<_}
-use native.Mathlib.Nat.{not-suc-le-zero, le-of-suc-le-suc}
-use Rattle.field.specs.Weight.{Weight, 0W, 1W}
-use Rattle.field.specs.Ring.{one-nonzero, nonzero-not}
-use Rattle.diagram.specs.Tensor.{Tensor, weight, split, isZero, scale, first, fix, joined}
-use Rattle.diagram.specs.TensorLaws.{fix-joined, isZero-eq, first-constant}
-use Rattle.diagram.specs.TestLaws.{cond-same, and-same, cases}
-use Rattle.diagram.specs.TopLaws.{From, fix-from}
+-- Laws of nodes' records: reading back, what a write leaves alone, nodes as a list, equality decided field by field.
+use mathlib.Core.Path.{_≡_, refl, ap, fun-ext, _∙_, subst, ap₂, sym}
+use mathlib.Core.Logic.{_≢_}
+use mathlib.Core.List.{List, [], _∷_, _++_}
+use mathlib.Core.Bool.{Bool, true, false}
+use Prim.Native.Nat.{ℕ, _%_, _≤_, _<_, _-_, zero, suc, _+_}
+use native.Mathlib.Omega.{arith}
+use native.Mathlib.Numerals.{add-one}
+use native.Mathlib.Decide.{ℕ-discrete}
+use lib.ListN.{length, getD, length-append, List·getD-append}
+use lib.Seq.{getD-append-seam}
+use Rattle.diagram.specs.Fields.{field, putField}
+use Rattle.diagram.specs.FieldsLaws.{putField-length, putField-same, putField-other, putField-beside}
+use Rattle.diagram.specs.Node.{NodeFits, RecordWithin, putNode, decode, packedField, nodeAt, SameRecords, Decides}
+use Rattle.diagram.specs.Node.{listed}
+use Rattle.diagram.specs.Sets.{PrefixOf}
+use Rattle.diagram.specs.SetsLaws.{prefix-refl, prefix-trans}
+use Rattle.diagram.specs.declared.node.Node.{Node}
+use Rattle.diagram.specs.declared.node.Edge.{Edge}
 
-isZero-twice : {d : ℕ} (T : Tensor d) → isZero (split T T) ≡ isZero T
-unfolding isZero
-isZero-twice T = and-same (isZero T)
+-- a node read and written, field by field
 
-first-twice : {d : ℕ} (T : Tensor d) → first (split T T) ≡ first T
-unfolding first
-first-twice T = cond-same (isZero T) (first T)
+pub decides-true : {P : Type 0} (b : Bool) → Decides P b → b ≡ true → P
+decides-true {P} b p e = subst (Decides P) e p
 
--- the first nonzero value of L, or of H where L is zero
-pub first-joined : {d : ℕ} (k : ℕ) (L H : Tensor d) → k < d → From (suc k) L → From (suc k) H → first (joined k L H) ≡ cond (isZero L) (first H) (first L)
-unfolding joined
-first-joined k (weight v) (weight w) p f g = absurd (not-suc-le-zero p)
-first-joined zero (split l h) (split l' h') p f g = rw (← f .0, ← g .0, isZero-twice l, first-twice l, first-twice l') (unfold first in refl)
-first-joined (suc k) (split l h) (split l' h') p f g =
-    rw (← f .0, ← g .0, isZero-twice l, first-twice l, first-twice l', first-twice (joined k l l')) (first-joined k l l' (le-of-suc-le-suc p) (f .1) (g .1))
+pub decides-false : {P : Type 0} (b : Bool) → Decides P b → b ≡ false → P → ⊥
+decides-false {P} b p e = subst (Decides P) e p
 
--- the parts of a joined tensor
-pub joined-low : {d : ℕ} (k : ℕ) (L H : Tensor d) → k < d → From (suc k) L → fix k false (joined k L H) ≡ L
-joined-low k L H p f = fix-joined k false L H p ∙ fix-from k false L f
+pub read-by : (s : List ℕ) (n : ℕ) {a b c d : ℕ}
+    → a ≡ field s 0 (n - 1) → b ≡ field s 1 (n - 1) → c ≡ field s 2 (n - 1) → d ≡ field s 3 (n - 1)
+    → decode a b c d ≡ nodeAt s n
+unfolding nodeAt
+read-by s n p q r t = cc
 
-pub joined-high : {d : ℕ} (k : ℕ) (L H : Tensor d) → k < d → From (suc k) H → fix k true (joined k L H) ≡ H
-joined-high k L H p f = fix-joined k true L H p ∙ fix-from k true H f
+pub written-by : (s : List ℕ) (n : ℕ) (x : Node) {s₁ s₂ s₃ s₄ : List ℕ}
+    → s₁ ≡ putField s 0 (n - 1) (packedField x) → s₂ ≡ putField s₁ 1 (n - 1) (x .low .node)
+    → s₃ ≡ putField s₂ 2 (n - 1) (x .high .weight % 65536)
+    → s₄ ≡ putField s₃ 3 (n - 1) (x .high .node) → s₄ ≡ putNode s n x
+unfolding putNode
+written-by s n x p q r t = cc
 
-pub from-scale : {d : ℕ} (k : ℕ) (c : Weight) (T : Tensor d) → From k T → From k (scale c T)
-unfolding scale
-from-scale zero c T f = tt
-from-scale (suc k) c (weight w) f = tt
-from-scale (suc k) c (split l h) f = (ap (scale c) (f .0), from-scale k c l (f .1))
+-- when two edges, and two nodes, are the same
 
-pub first-one : {d : ℕ} (T : Tensor d) → first T ≡ 1W → isZero T ≡ false
-first-one {d} T e = cases (isZero T) (λ z. absurd (nonzero-not (one-nonzero) (sym e ∙ ap first (isZero-eq T z) ∙ first-constant d 0W))) (λ z. z)
+pub edge-eq : {a b : Edge} → a .weight ≡ b .weight → a .node ≡ b .node → a ≡ b
+edge-eq p q = λ i. record { weight = p i; node = q i }
+
+pub node-eq : {x y : Node} → x .index ≡ y .index → x .low ≡ y .low → x .high ≡ y .high → x ≡ y
+node-eq p q r = λ i. record { index = p i; low = q i; high = r i }
+
+pub weights-differ : {a b : Edge} → a .weight ≢ b .weight → a ≢ b
+weights-differ n e = n (ap (λ (x : Edge). x .weight) e)
+
+pub nodes-differ : {a b : Edge} → a .node ≢ b .node → a ≢ b
+nodes-differ n e = n (ap (λ (x : Edge). x .node) e)
+
+pub indices-differ : {x y : Node} → x .index ≢ y .index → x ≢ y
+indices-differ n e = n (ap (λ (z : Node). z .index) e)
+
+pub lows-differ : {x y : Node} (b : Bool) → Decides (x .low ≡ y .low) b → b ≡ false → x ≢ y
+lows-differ b t f e = decides-false b t f (ap (λ (z : Node). z .low) e)
+
+pub highs-decide : (x y : Node) (a b : Bool) → x .index ≡ y .index → Decides (x .low ≡ y .low) a → a ≡ true
+    → Decides (x .high ≡ y .high) b → Decides (x ≡ y) b
+highs-decide x y a true p t q h = node-eq p (decides-true a t q) h
+highs-decide x y a false p t q h = λ e. h (ap (λ (z : Node). z .high) e)
+
+-- two functions that are equal are equal at i
+pub there : {f g : ℕ → ℕ} → f ≡ g → (i : ℕ) → f i ≡ g i
+there e i = ap (λ (q : ℕ → ℕ). q i) e
+
+decode-ap : {a b c d a' b' c' d' : ℕ} → a ≡ a' → b ≡ b' → c ≡ c' → d ≡ d' → decode a b c d ≡ decode a' b' c' d'
+decode-ap p q r t = λ i. decode (p i) (q i) (r i) (t i)
+
+decode-packed : (x : Node) → NodeFits x
+    → decode (packedField x) (x .low .node) (x .high .weight % 65536) (x .high .node) ≡ x
+unfolding decode
+decode-packed x h = node-eq (omega arith) (edge-eq (omega arith) refl) (edge-eq (omega arith) refl)
+
+-- A put of a field from 4 on changes no node.
+pub put-node : (s : List ℕ) (f i v : ℕ) → 4 ≤ f → f < 8 → nodeAt (putField s f i v) ≡ nodeAt s
+unfolding nodeAt
+put-node s f i v h l =
+    let at : (g n : ℕ) → g < 4 → field (putField s f i v) g (n - 1) ≡ field s g (n - 1) =
+    λ g n k. there (putField-beside s f i v g l (omega arith) (omega arith)) (n - 1) in
+    fun-ext (λ n. decode-ap (at 0 n (omega arith)) (at 1 n (omega arith)) (at 2 n (omega arith)) (at 3 n (omega arith)))
+
+pub same-records-refl : (s : List ℕ) → SameRecords s s
+same-records-refl s = record { long = refl; fields = λ f p. refl }
+
+pub same-records-put : {s s' : List ℕ} (f i v : ℕ) → 6 ≤ f → f < 8 → SameRecords s s'
+    → SameRecords s (putField s' f i v)
+same-records-put {s} {s'} f i v h l a =
+    record {
+      long = putField-length s' f i v ∙ a .long;
+      fields = λ g p. putField-beside s' f i v g l (omega arith) (omega arith) ∙ a .fields g p;
+    }
+
+pub same-records-node : {s s' : List ℕ} → SameRecords s s' → nodeAt s' ≡ nodeAt s
+unfolding nodeAt
+same-records-node {s} {s'} a =
+    let at : (g n : ℕ) → g < 6 → field s' g (n - 1) ≡ field s g (n - 1) = λ g n p. there (a .fields g p) (n - 1) in
+    fun-ext (λ n. decode-ap (at 0 n (omega arith)) (at 1 n (omega arith)) (at 2 n (omega arith)) (at 3 n (omega arith)))
+
+-- A write of a node changes that node, and neither another node nor a field from 4 on.
+module _ (s : List ℕ) (n : ℕ) (x : Node) where
+  pub putNode-length : length (putNode s n x) ≡ length s
+  unfolding putNode
+  putNode-length = simp putField-length
+
+  pub putNode-beside : (g : ℕ) → 4 ≤ g → g < 8 → field (putNode s n x) g ≡ field s g
+  unfolding putNode
+  putNode-beside g h l =
+      putField-beside _ 3 _ _ g (omega arith) l (omega arith) ∙ putField-beside _ 2 _ _ g (omega arith) l (omega arith)
+      ∙ putField-beside _ 1 _ _ g (omega arith) l (omega arith)
+      ∙ putField-beside s 0 _ _ g (omega arith) l (omega arith)
+
+  away : (g m : ℕ) → g < 8 → m - 1 ≢ n - 1 → field (putNode s n x) g (m - 1) ≡ field s g (m - 1)
+  unfolding putNode
+  away g m l d =
+      putField-other _ 3 _ _ g _ (omega arith) l d ∙ putField-other _ 2 _ _ g _ (omega arith) l d
+      ∙ putField-other _ 1 _ _ g _ (omega arith) l d ∙ putField-other s 0 _ _ g _ (omega arith) l d
+
+  pub putNode-other : (m : ℕ) → 1 ≤ n → 1 ≤ m → m ≢ n → nodeAt (putNode s n x) m ≡ nodeAt s m
+  unfolding nodeAt
+  putNode-other m hn hm ne =
+      let at : (g : ℕ) → g < 8 → field (putNode s n x) g (m - 1) ≡ field s g (m - 1) = λ g l. away g m l (omega arith)
+      in
+      decode-ap (at 0 (omega arith)) (at 1 (omega arith)) (at 2 (omega arith)) (at 3 (omega arith))
+
+  pub putNode-same : RecordWithin s n → NodeFits x → nodeAt (putNode s n x) n ≡ x
+  unfolding nodeAt putNode
+  putNode-same w h =
+      let i : ℕ = n - 1 in
+      let s₁ : List ℕ = putField s 0 i (packedField x) in
+      let s₂ : List ℕ = putField s₁ 1 i (x .low .node) in
+      let s₃ : List ℕ = putField s₂ 2 i (x .high .weight % 65536) in
+      let l₁ : length s₁ ≡ length s = putField-length s _ _ _ in
+      let l₂ : length s₂ ≡ length s = putField-length s₁ _ _ _ ∙ l₁ in
+      let l₃ : length s₃ ≡ length s = putField-length s₂ _ _ _ ∙ l₂ in
+      let b3 : (g : ℕ) → g < 3 → field (putField s₃ 3 i (x .high .node)) g i ≡ field s₃ g i =
+      λ g l. there (putField-beside s₃ 3 i _ g (omega arith) (omega arith) (omega arith)) i in
+      let b2 : (g : ℕ) → g < 2 → field s₃ g i ≡ field s₂ g i =
+      λ g l. there (putField-beside s₂ 2 i _ g (omega arith) (omega arith) (omega arith)) i in
+      let b1 : field s₂ 0 i ≡ field s₁ 0 i =
+      there (putField-beside s₁ 1 i _ 0 (omega arith) (omega arith) (omega arith)) i in
+      decode-ap
+      (b3 0 (omega arith) ∙ b2 0 (omega arith) ∙ b1 ∙ putField-same s 0 i _ (omega arith))
+      (b3 1 (omega arith) ∙ b2 1 (omega arith) ∙ putField-same s₁ 1 i _ (omega arith))
+      (b3 2 (omega arith) ∙ putField-same s₂ 2 i _ (omega arith))
+      (putField-same s₃ 3 i _ (omega arith))
+      ∙ decode-packed x h
+
+pub listed-none : (f : ℕ → Node) → listed f 0 ≡ []
+unfolding listed
+listed-none f = refl
+
+pub listed-more : (f : ℕ → Node) (m : ℕ) → listed f (suc m) ≡ listed f m ++ (f (suc m) ∷ [])
+unfolding listed
+listed-more f m = refl
+
+pub listed-ext : (f g : ℕ → Node) (m : ℕ) → ((n : ℕ) → 1 ≤ n → n ≤ m → g n ≡ f n) → listed g m ≡ listed f m
+unfolding listed
+listed-ext f g zero e = refl
+listed-ext f g (suc m) e =
+    ap₂ (λ (l : List Node) (x : Node). l ++ (x ∷ [])) (listed-ext f g m (λ n p q. e n p (omega arith)))
+    (e (suc m) (omega arith) (omega arith))
+
+pub listed-length : (f : ℕ → Node) (m : ℕ) → length (listed f m) ≡ m
+unfolding listed
+listed-length f zero = refl
+listed-length f (suc m) = length-append (listed f m) _ ∙ rw (listed-length f m) (add-one m)
+
+-- node n of the list is f n
+pub listed-at : (f : ℕ → Node) (m i : ℕ) (d : Node) → i < m → getD (listed f m) i d ≡ f (suc i)
+unfolding listed
+listed-at f zero i d h = absurd (omega arith)
+listed-at f (suc m) i d h =
+    elim (ℕ-discrete i m) [
+      | yes e ↦ rw e (ap (λ (j : ℕ). getD (listed f m ++ (f (suc m) ∷ [])) j d) (sym (listed-length f m))
+          ∙ getD-append-seam (listed f m) _ [] d)
+      | no n ↦ List·getD-append (listed f m) _ d i (rw (listed-length f m) (omega arith))
+          ∙ listed-at f m i d (omega arith)
+    ]
+
+further : (f : ℕ → Node) (m j : ℕ) → PrefixOf (listed f m) (listed f (m + j))
+further f m zero = let e : m + 0 ≡ m = omega arith in rw e (prefix-refl _)
+further f m (suc j) =
+    let e : m + suc j ≡ suc (m + j) = omega arith in
+    rw e (prefix-trans (further f m j) (record { more = f (suc (m + j)) ∷ []; is = listed-more f (m + j) }))
+
+pub listed-prefix : (f : ℕ → Node) (m n : ℕ) → m ≤ n → PrefixOf (listed f m) (listed f n)
+listed-prefix f m n p =
+    let e : m + (n - m) ≡ n = omega arith in subst (λ k. PrefixOf (listed f m) (listed f k)) e (further f m (n - m))

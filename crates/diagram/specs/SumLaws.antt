@@ -1,89 +1,218 @@
--- The laws of sum: one step, meaning, growth, scaling.
-use mathlib.Core.Path.{_≡_, refl, ap₂, _∙_}
-use mathlib.Core.Bool.{Bool, true, false}
-use mathlib.Core.Option.{Option, none, some}
+-- Laws of sum in the store: what each of its cases gives.
+use mathlib.Core.Path.{_≡_, refl, ap, sym, _∙_}
+use mathlib.Core.Logic.{_≢_}
+use mathlib.Core.Bool.{true, false}
+use mathlib.Core.List.{List}
 use Prim.Native.Nat.{ℕ, suc}
-use Rattle.field.specs.Weight.{Weight, 0W, Nonzero}
-use Rattle.diagram.specs.Tensor.{Tensor, constant, isZero, scale, plus, top2, fix, joined, multiple}
-use Rattle.diagram.specs.TensorLaws.{isZero-eq, joined-fix}
-use Rattle.diagram.specs.RingLaws.{zero-plus, plus-zero, joined-plus, scale-plus}
-use Rattle.diagram.specs.TopLaws.{From, from-fix, from-plus, lowest, Local2, onTop2-step, induction2}
-use Rattle.diagram.specs.ScaleLaws.{isZero-scale, multiple-scale, top2-scale}
-use Rattle.diagram.specs.Tally.{Set, Binary, return, _>>=_, join, both, sumCases, sumBody, sum}
-use Rattle.diagram.specs.Sets.{Grown}
-use Rattle.diagram.specs.StepLaws.{Writes, writes-return, writes-as, writes-join, writes-both, writes-answer, writes-grows, Scaled}
-use Rattle.diagram.specs.StepLaws.{scaled-return, scaled-both, scaled-join}
+use native.Mathlib.Omega.{arith}
+use lib.ListN.{length}
+use Rattle.field.specs.Weight.{toWeight, timesW, inverseW, Nonzero}
+use Rattle.field.specs.Field.{Represents}
+use Rattle.field.specs.RingLaws.{nonzero-weight, weight-one, weight-zero, nonzero-not}
+use Rattle.field.specs.InverseLaws.{times-nonzero, inverse-nonzero}
+use Rattle.diagram.specs.Tensor.{Tensor, isZero, plus, fix, multiple, indices}
+use Rattle.diagram.specs.TensorLaws.{scale-one}
+use Rattle.diagram.specs.TopLaws.{free-below-fix, free-below-plus}
+use Rattle.diagram.specs.Tally.{join, both, sum}
+use Rattle.diagram.specs.TallyStep.{ScaledStep, Writes}
+use Rattle.diagram.specs.TallySumLaws.{sum-meaning, sum-grows, sum-writes}
+use Rattle.diagram.specs.TallyCasesLaws.{sum-zero-left, sum-zero-right, sum-multiple, sum-both}
+use Rattle.diagram.specs.TallyShareLaws.{sum-ratio}
+use Rattle.diagram.specs.Meaning.{edgeIn, Valid}
+use Rattle.diagram.specs.CanonicalLaws.{edge-is-zero, edge-nonzero}
+use Rattle.diagram.specs.Engine.{nodesOf, setOf, tensorOf, Sound, Refines}
+use Rattle.diagram.specs.EngineLaws.{nodes-length, join-grows}
+use Rattle.diagram.specs.Edge.{IsSum, IsCofactor}
+use Rattle.diagram.specs.EdgeLaws.{edge-sum-valid, edge-sum-tensor, multiple-one, multiple-two, free-below-level}
+use Rattle.diagram.specs.Cache.{KeyFits, opStep, keyStep}
+use Rattle.diagram.specs.Operation.{OperationRequires, RefinesCached, lowestOf, MultipleOutcome, highStep}
+use Rattle.diagram.specs.Operation.{HighRequires, edgesMeasure, PartsGrow}
+use Rattle.diagram.specs.OperationLaws.{cached-stays, cached-step, cached-scaled}
+use Rattle.diagram.specs.Join.{JoinRequires}
+use Rattle.diagram.specs.HalvesLaws.{measure-same, inside, tops}
+use Rattle.diagram.specs.HalvesLaws.{low-part-full, high-part-ready, high-part-measure, low-part-refines}
+use Rattle.diagram.specs.HalvesLaws.{high-part-full, high-ready, high-joinable, high-part-refines}
+use Rattle.diagram.specs.Sum.{SumReduced}
+use Rattle.diagram.specs.declared.node.Edge.{Edge}
+use Rattle.diagram.specs.declared.make.State.{State}
+use Rattle.diagram.specs.declared.cache.Op.the-variants as ops
+use Rattle.diagram.specs.declared.join.Outcome.{Outcome}
+use Rattle.diagram.specs.declared.join.Outcome.the-variants as outcome
 
--- one step
+-- an edge of weight 0 has the tensor zero, and no other has
 
-pub both-local : {d : ℕ} (rec rec' : Binary d) (k : ℕ) (A B : Tensor d) (final : Binary d)
-    → rec (fix k false A) (fix k false B) ≡ rec' (fix k false A) (fix k false B)
-    → rec (fix k true A) (fix k true B) ≡ rec' (fix k true A) (fix k true B)
-    → both rec k A B final ≡ both rec' k A B final
-unfolding both
-both-local rec rec' k A B final p q = ap₂ (λ f g. f >>= (λ L. g >>= (λ H. final L H))) p q
+module _ {s : List ℕ} {st : State} (held : Sound s st) where
+  pub zero-tensor : (a : Edge) → a .weight ≡ 0 → isZero (tensorOf s st a) ≡ true
+  unfolding tensorOf setOf
+  zero-tensor a z = edge-is-zero indices (nodesOf s st) (held .nodes) a z
 
-sum-cases-local : {d : ℕ} (z b m : Bool) (o : Option ℕ) (rec rec' : Binary d) (A B : Tensor d)
-    → ((k : ℕ) (x : Bool) → o ≡ some k → rec (fix k x A) (fix k x B) ≡ rec' (fix k x A) (fix k x B))
-    → sumCases z b m o rec A B ≡ sumCases z b m o rec' A B
-unfolding sumCases
-sum-cases-local true b m o rec rec' A B h = refl
-sum-cases-local false true m o rec rec' A B h = refl
-sum-cases-local false false true o rec rec' A B h = refl
-sum-cases-local false false false none rec rec' A B h = refl
-sum-cases-local false false false (some k) rec rec' A B h = both-local rec rec' k A B (join k) (h k false refl) (h k true refl)
+  pub nonzero-tensor : {a : Edge} → Valid (st .count) a → a .weight ≢ 0 → isZero (tensorOf s st a) ≡ false
+  unfolding tensorOf setOf
+  nonzero-tensor {a} v n = edge-nonzero indices (nodesOf s st) (held .nodes) a (rw (nodes-length s st) v) n
 
-sum-local : {d : ℕ} → Local2 {d = d} sumBody
-unfolding sumBody
-sum-local rec rec' A B h = sum-cases-local (isZero A) (isZero B) (multiple A B) (top2 A B) rec rec' A B h
+module _ {c s : List ℕ} {st : State} {a b : Edge} (g : OperationRequires c s st a b) where
+  -- "if A is zero, B. If B is zero, A."
+  pub sum-left : a .weight ≡ 0 → RefinesCached c s s st (sum (tensorOf s st a) (tensorOf s st b)) (outcome.Edge b st)
+  sum-left z = cached-stays g (g .right) (sum-zero-left _ _ _ (zero-tensor (g .sound) a z))
 
-pub sum-step : {d : ℕ} (A B : Tensor d) → sum A B ≡ sumBody sum A B
-unfolding sum
-sum-step {d} A B = onTop2-step (return (constant d 0W)) sumBody sum-local A B
+  pub sum-right : a .weight ≢ 0 → b .weight ≡ 0
+      → RefinesCached c s s st (sum (tensorOf s st a) (tensorOf s st b)) (outcome.Edge a st)
+  sum-right n z = cached-stays g (g .left) (sum-zero-right _ _ _ (nonzero-tensor (g .sound) (g .left) n)
+      (zero-tensor (g .sound) b z))
 
--- meaning and growth
+  module _ (na : a .weight ≢ 0) (nb : b .weight ≢ 0) where
+    va : Valid (length (nodesOf s st)) a
+    va = rw (nodes-length s st) (g .left)
 
-pub joined-parts : {d : ℕ} (k : ℕ) (A B : Tensor d) → joined k (plus (fix k false A) (fix k false B)) (plus (fix k true A) (fix k true B)) ≡ plus A B
-joined-parts k A B = joined-plus k _ _ _ _ ∙ ap₂ plus (joined-fix k A) (joined-fix k B)
+    vb : Valid (length (nodesOf s st)) b
+    vb = rw (nodes-length s st) (g .right)
 
-sum-cases-writes : {d : ℕ} (z b m : Bool) (o : Option ℕ) (A B : Tensor d) → isZero A ≡ z → isZero B ≡ b → top2 A B ≡ o
-    → ((k : ℕ) (x : Bool) → o ≡ some k → Writes (plus (fix k x A) (fix k x B)) (sum (fix k x A) (fix k x B)))
-    → Writes (plus A B) (sumCases z b m o sum A B)
-unfolding sumCases
-sum-cases-writes true b m o A B p q e h = rw (isZero-eq A p, zero-plus B) (writes-return B)
-sum-cases-writes false true m o A B p q e h = rw (isZero-eq B q, plus-zero A) (writes-return A)
-sum-cases-writes false false true o A B p q e h = writes-return (plus A B)
-sum-cases-writes false false false none A B p q e h = writes-return (plus A B)
-sum-cases-writes false false false (some k) A B p q e h =
-    let o = lowest A B k e in
-    let from : (x : Bool) → From (suc k) (plus (fix k x A) (fix k x B)) = λ x. from-plus (suc k) _ _ (from-fix k x A (o .left)) (from-fix k x B (o .right)) in
-    writes-both sum k A B (join k) (h k false refl) (h k true refl) (writes-as (joined-parts k A B) (writes-join k _ _ (o .inside) (from false) (from true)))
+    one-node : a .node ≡ b .node → multiple (tensorOf s st a) (tensorOf s st b) ≡ true
+    unfolding tensorOf setOf
+    one-node e = multiple-one indices (nodesOf s st) (g .sound .nodes) a b va vb na nb e
 
-pub sum-writes : {d : ℕ} (A B : Tensor d) → Writes (plus A B) (sum A B)
-unfolding sumBody
-sum-writes = induction2 (λ A B. Writes (plus A B) (sum A B))
-    (λ A B h. rw (sum-step A B) (sum-cases-writes (isZero A) (isZero B) (multiple A B) (top2 A B) A B refl refl refl h))
+    two-nodes : a .node ≢ b .node → multiple (tensorOf s st a) (tensorOf s st b) ≡ false
+    unfolding tensorOf setOf
+    two-nodes e = multiple-two indices (nodesOf s st) (g .sound .nodes) a b va vb na nb e
 
-pub sum-meaning : {d : ℕ} (A B : Tensor d) (s : Set d) → sum A B s .0 ≡ plus A B
-sum-meaning A B s = writes-answer (sum-writes A B) s
+    added-is : {r : Edge} → a .node ≡ b .node → IsSum a b r → tensorOf s st r ≡ plus (tensorOf s st a) (tensorOf s st b)
+    unfolding tensorOf
+    added-is e t = edge-sum-tensor (setOf s st) e t
 
-pub sum-grows : {d : ℕ} (A B : Tensor d) (s : Set d) → Grown s (sum A B s .1)
-sum-grows A B s = writes-grows (sum-writes A B) s
+    -- "If one is a multiple of the other, their sum, nothing put in."
+    pub sum-one : {r : Edge} → a .node ≡ b .node → IsSum a b r
+        → RefinesCached c s s st (sum (tensorOf s st a) (tensorOf s st b)) (outcome.Edge r st)
+    sum-one e t =
+        cached-stays g (edge-sum-valid (g .left) t)
+        (sum-multiple _ _ _ (nonzero-tensor (g .sound) (g .left) na) (nonzero-tensor (g .sound) (g .right) nb)
+        (one-node e)
+        ∙ ap (λ T. (T, setOf s st)) (sym (added-is e t)))
 
--- scaling
+    -- a's weight taken out: i is its inverse, r the ratio of the weights
+    module _ {i r : ℕ} (apart : a .node ≢ b .node) (inv : Represents i (inverseW (toWeight (a .weight))))
+        (ratio : Represents r (timesW (toWeight i) (toWeight (b .weight)))) where
+      wn : Nonzero (toWeight (a .weight))
+      wn = nonzero-weight (a .weight) (g .left .small) na
 
-sum-cases-scaled : {d : ℕ} (c : Weight) → Nonzero c → (z b m : Bool) (o : Option ℕ) (A B : Tensor d)
-    → ((k : ℕ) (x : Bool) → o ≡ some k → Scaled c (sum (fix k x A) (fix k x B)) (sum (scale c (fix k x A)) (scale c (fix k x B))))
-    → Scaled c (sumCases z b m o sum A B) (sumCases z b m o sum (scale c A) (scale c B))
-unfolding sumCases
-sum-cases-scaled c n true b m o A B h = scaled-return c B
-sum-cases-scaled c n false true m o A B h = scaled-return c A
-sum-cases-scaled c n false false true o A B h = rw (← scale-plus) (scaled-return c (plus A B))
-sum-cases-scaled c n false false false none A B h = rw (← scale-plus) (scaled-return c (plus A B))
-sum-cases-scaled c n false false false (some k) A B h = scaled-both c c sum sum k A B (join k) (join k) (λ x. h k x refl) (λ L H. scaled-join c k L H n)
+      ratio-nonzero : r ≢ 0
+      ratio-nonzero z =
+          nonzero-not (times-nonzero (inverse-nonzero wn) (nonzero-weight (b .weight) (g .right .small) nb))
+          (ap (λ x. timesW x (toWeight (b .weight))) (sym (inv .is)) ∙ sym (ratio .is) ∙ ap toWeight z ∙ weight-zero)
 
-pub sum-scaled : {d : ℕ} (c : Weight) → Nonzero c → (A B : Tensor d) → Scaled c (sum A B) (sum (scale c A) (scale c B))
-unfolding sumBody
-sum-scaled c n = induction2 (λ A B. Scaled c (sum A B) (sum (scale c A) (scale c B)))
-    (λ A B h. rw (sum-step A B, sum-step (scale c A) (scale c B), isZero-scale c A n, isZero-scale c B n, multiple-scale c c A B n n, top2-scale c c A B n n)
-    (sum-cases-scaled c n (isZero A) (isZero B) (multiple A B) (top2 A B) A B h))
+      pub sum-reduced-ready : OperationRequires c s st (record { weight = 1; node = a .node })
+          (record { weight = r; node = b .node })
+      sum-reduced-ready = record {
+        sound = g .sound;
+        left = record { small = omega arith; within = g .left .within; zero = λ z. absurd (omega arith) };
+        right = record { small = ratio .small; within = g .right .within; zero = λ z. absurd (ratio-nonzero z) };
+        cache = g .cache;
+      }
+
+      pub sum-reduced : SumReduced (record { weight = 1; node = a .node }) (record { weight = r; node = b .node })
+      sum-reduced = record { left = refl; right = ratio-nonzero; nodes = apart }
+
+      pub sum-reduced-measure : edgesMeasure s st (record { weight = 1; node = a .node })
+          (record { weight = r; node = b .node }) ≡ edgesMeasure s st a b
+      sum-reduced-measure = measure-same s st a b _ _ refl refl
+
+      scaled : ScaledStep (toWeight (a .weight))
+          (sum (tensorOf s st (record { weight = 1; node = a .node }))
+          (tensorOf s st (record { weight = r; node = b .node })))
+          (sum (tensorOf s st a) (tensorOf s st b))
+      unfolding tensorOf edgeIn
+      scaled = rw (ratio .is, inv .is, weight-one, scale-one)
+          (sum-ratio (toWeight (a .weight)) (toWeight (b .weight)) wn _ _)
+
+      pub sum-times : (c' s' : List ℕ) (m q : Outcome)
+          → RefinesCached c' s s' st (sum (tensorOf s st (record { weight = 1; node = a .node }))
+          (tensorOf s st (record { weight = r; node = b .node }))) m
+          → MultipleOutcome (a .weight) m q → RefinesCached c' s s' st (sum (tensorOf s st a) (tensorOf s st b)) q
+      sum-times c' s' m q w t = cached-scaled c' s s' st m q (g .left .small) na scaled w t
+
+-- edges to different nodes
+module _ {c s : List ℕ} {st : State} {a b : Edge} (g : OperationRequires c s st a b) (p : SumReduced a b) where
+  -- the key
+  pub sum-key-fits : KeyFits (record { op = ops.Sum; left = a .node; right = b .node; arg = b .weight })
+  sum-key-fits = record {
+    left = omega (arith, g .left .within, g .sound .stored .numbered);
+    right = omega (arith, g .right .within, g .sound .stored .numbered);
+    arg = omega (arith, g .right .small);
+  }
+
+  pub sum-key-step : sum (tensorOf s st a) (tensorOf s st b) ≡ keyStep s st
+      (record { op = ops.Sum; left = a .node; right = b .node; arg = b .weight })
+  unfolding keyStep opStep tensorOf edgeIn
+  sum-key-step = rw (p .left, weight-one, scale-one)
+
+  pub sum-known : (T : Tensor indices) × Writes T (sum (tensorOf s st a) (tensorOf s st b))
+  sum-known = (_, sum-writes _ _)
+
+  -- "Else k is the lower top, and join(k, sum(A0,B0), sum(A1,B1))."
+  pub sum-some : a .node ≡ 0 → b .node ≢ 0
+  sum-some z y = p .nodes (z ∙ sym y)
+
+  left-some : a .weight ≢ 0
+  left-some z = omega (arith, p .left)
+
+  pub sum-whole : {k : ℕ} → k ≡ lowestOf s st a b
+      → sum (tensorOf s st a) (tensorOf s st b) ≡ both sum k (tensorOf s st a) (tensorOf s st b) (join k)
+  sum-whole {k} m =
+      sum-both _ _ (setOf s st) (nonzero-tensor (g .sound) (g .left) left-some)
+      (nonzero-tensor (g .sound) (g .right) (p .right))
+      (two-nodes g left-some (p .right) (p .nodes)) k (tops g sum-some m)
+
+pub sum-parts-at : {c s : List ℕ} {st : State} {a b : Edge} {k : ℕ} → OperationRequires c s st a b
+    → k ≡ lowestOf s st a b
+    → PartsGrow (tensorOf s st a) (tensorOf s st b) k sum (join k)
+sum-parts-at {s = s} {st} {a} {b} {k} g m = record {
+  rec-grows = λ x z. sum-grows _ _ z;
+  final-grows = λ X Y z. join-grows k X Y z;
+  rec-from = λ x z. rw (sum-meaning (fix k x (tensorOf s st a)) (fix k x (tensorOf s st b)) z)
+      (free-below-plus (suc k) _ _ (free-below-fix k x _ (free-below-level s st (g .sound) a k (g .left)
+      (omega (arith, m))))
+      (free-below-fix k x _ (free-below-level s st (g .sound) b k (g .right) (omega (arith, m)))));
+}
+
+-- the low parts
+module _ {c s : List ℕ} {st : State} {a b a0 b0 : Edge} {k : ℕ} (g : OperationRequires c s st a b) (p : SumReduced a b)
+    (m : k ≡ lowestOf s st a b)
+    (ca : IsCofactor s st a k false a0) (cb : IsCofactor s st b k false b0) (c₁ s₁ : List ℕ) (r : Outcome)
+    (w : RefinesCached c₁ s s₁ st (sum (tensorOf s st a0) (tensorOf s st b0)) r) where
+  pub sum-low-full : r ≡ outcome.Full → RefinesCached c₁ s s₁ st (sum (tensorOf s st a) (tensorOf s st b)) outcome.Full
+  sum-low-full e = low-part-full g (inside g (sum-some g p) m) m (sum-parts-at g m) (sum-whole g p m) ca cb c₁ s₁ r w e
+
+  module _ {l : Edge} {t : State} (e : r ≡ outcome.Edge l t) where
+    pub sum-high-ready : HighRequires c₁ s₁ t a b k l
+    sum-high-ready =
+        high-part-ready g (inside g (sum-some g p) m) m (sum-parts-at g m) (sum-whole g p m) ca cb c₁ s₁ r w e
+
+    pub sum-measure : edgesMeasure s₁ t a b ≡ edgesMeasure s st a b
+    sum-measure =
+        high-part-measure g (inside g (sum-some g p) m) m (sum-parts-at g m) (sum-whole g p m) ca cb c₁ s₁ r w e
+
+    pub sum-low-refines : (c₂ s₂ : List ℕ) (q : Outcome)
+        → RefinesCached c₂ s₁ s₂ t (highStep sum (join k) k (tensorOf s₁ t a) (tensorOf s₁ t b) (tensorOf s₁ t l)) q
+        → RefinesCached c₂ s s₂ st (sum (tensorOf s st a) (tensorOf s st b)) q
+    sum-low-refines c₂ s₂ q h = low-part-refines g (inside g (sum-some g p) m) m (sum-parts-at g m) (sum-whole g p m) ca
+        cb c₁ s₁ r w e c₂ s₂ q h
+
+-- the high parts
+module _ {c s : List ℕ} {st : State} {a b a1 b1 l : Edge} {k : ℕ} (w : HighRequires c s st a b k l)
+    (ca : IsCofactor s st a k true a1) (cb : IsCofactor s st b k true b1) (c₁ s₁ : List ℕ) (r : Outcome)
+    (h : RefinesCached c₁ s s₁ st (sum (tensorOf s st a1) (tensorOf s st b1)) r) where
+  v : PartsGrow (tensorOf s st a) (tensorOf s st b) k sum (join k)
+  v = sum-parts-at (w .ready) (w .lowest)
+
+  pub sum-high-full : r ≡ outcome.Full
+      → RefinesCached c₁ s s₁ st (highStep sum (join k) k (tensorOf s st a) (tensorOf s st b) (tensorOf s st l))
+      outcome.Full
+  sum-high-full e = high-part-full w v ca cb c₁ s₁ r h e
+
+  module _ {x : Edge} {t : State} (e : r ≡ outcome.Edge x t) where
+    pub sum-joinable : Sound s₁ t × JoinRequires s₁ t k l x
+    sum-joinable = (high-ready w v ca cb c₁ s₁ r h e .sound, high-joinable w v ca cb c₁ s₁ r h e)
+
+    pub sum-high-refines : (s₂ : List ℕ) (q : Outcome) → Refines s₁ s₂ t (join k (tensorOf s₁ t l) (tensorOf s₁ t x)) q
+        → RefinesCached c₁ s s₂ st (highStep sum (join k) k (tensorOf s st a) (tensorOf s st b) (tensorOf s st l)) q
+    sum-high-refines s₂ q d =
+        high-part-refines w v ca cb c₁ s₁ r h e c₁ s₂ q (cached-step s₂ _ q (high-ready w v ca cb c₁ s₁ r h e) d)

@@ -5,13 +5,14 @@ use mathlib.Core.Option.{Option, none, some}
 use Prim.Native.Nat.{ℕ, zero, suc, _-_}
 use lib.Dec.{ltb, eqb}
 use Rattle.field.specs.Weight.{0W}
-use Rattle.diagram.specs.Tensor.{Tensor, Bits, same, constant, isZero, scale, plus, times, top, top2, fix, joined, normal, multiple, without}
+use Rattle.diagram.specs.Tensor.{Tensor, Bits, same, constant, isZero, scale, plus, times, top, top2, fix, joined}
+use Rattle.diagram.specs.Tensor.{normal, multiple, without}
 use Rattle.diagram.specs.Tensor.{members, power2}
 use Rattle.diagram.specs.Descend.{onTop, onTop2}
 
 infixl 40 _>>=_
--- "It holds a set of normal tensors, empty at first": its tensors in the order put in, all normal and none twice (Clean).
--- "The tally's node count is the size of its set": the length.
+-- "It holds a set of normal tensors, empty at first": its tensors in the order put in, all normal and none twice
+-- (NormalSet). "The tally's node count is the size of its set": the length.
 abbrev pub Set : ℕ → Type 0
 Set d = List (Tensor d)
 
@@ -44,8 +45,9 @@ joinCases false T s = (T, put (normal T) s)
 unfoldable pub join : {d : ℕ} → ℕ → Tensor d → Tensor d → Step d
 join k L H = joinCases (same L H) (joined k L H)
 
--- A recursion is written as its body: its cases, and `rec` where it calls itself. It ends, since the top rises at each call, so that
--- the first argument of onTop is never answered. That it is its body with itself for `rec`: sum-step, cont-step, low-step and build-step.
+-- A recursion is written as its body: its cases, and `rec` where it calls itself. It ends, since the top rises at each
+-- call, so that the first argument of onTop is never answered. That it is its body with itself for `rec`: sum-step,
+-- cont-step, low-step and build-step.
 
 abbrev pub Binary : ℕ → Type 0
 Binary d = Tensor d → Tensor d → Step d
@@ -136,7 +138,8 @@ unfoldable pub build : {d : ℕ} → Unary d
 build {d} = onTop (return (constant d 0W)) buildBody
 
 -- "collect: the set keeps exactly the normal multiples of the nonconstant tensors got from filled registers
---  by fixing indices 0 to j-1, for j from 0 to 23." It is a filter of the set: all of them are in it before (CoverLaws, collect-exactly).
+--  by fixing indices 0 to j-1, for j from 0 to 23." It is a filter of the set: all of them are in it before
+--  (TallyCoverLaws, collect-exactly).
 
 -- each tensor of a list with index k fixed to 0, and fixed to 1
 unfoldable pub fixBoth : {d : ℕ} → ℕ → List (Tensor d) → List (Tensor d)

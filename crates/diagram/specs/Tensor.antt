@@ -1,19 +1,28 @@
--- Tensors (document 01, "Tensors"), then the operations on them that the tally's sentences name. The laws are in the files beside.
+-- Tensors (document 01, "Tensors"), then the operations on them that the tally's sentences name. The laws are in the
+-- files beside.
 use mathlib.Core.Path.{_≡_, refl}
 use mathlib.Core.Bool.{Bool, true, false, cond, _&&_, not}
 use mathlib.Core.Option.{Option, none, some}
-use Prim.Native.Nat.{ℕ, zero, suc, _+_, _*_, _%_, _/_}
+use Prim.Native.Nat.{ℕ, zero, suc, _+_, _*_, _%_, _/_, _-_}
 use lib.Dec.{eqb, leb}
 use Rattle.field.specs.Weight.{Weight, 0W, 1W, plusW, timesW, sameW, inverseW}
 
--- ".. the indices 0 to 23": how many the engine has. Every definition and law takes a number d of indices and holds for each;
--- this one is shut, since nothing may compute with the 2^24 weights of a tensor over 24 indices.
-pub indices : ℕ
-indices = 24
+-- ".. the indices 0 to 23": how many the engine has, as a number
+abbrev pub indexCount : ℕ
+indexCount = 24
 
-pub indices-24 : indices ≡ 24
+-- The same, as the number of indices of the engine's tensors. Every definition and law takes a number d of indices and
+-- holds for each; this one is shut, since nothing may compute with the 2^24 weights of a tensor over 24 indices.
+pub indices : ℕ
+indices = indexCount
+
+-- numbers of assignments and of sets of indices are below it: "bits of m, at most 16777215"
+abbrev pub masks : ℕ
+masks = 16777216
+
+pub indices-count : indices ≡ indexCount
 unfolding indices
-indices-24 = refl
+indices-count = refl
 
 -- an assignment: for each index its value, 0 (false) or 1 (true); or a set of indices: those with true
 abbrev pub Bits : Type 0
@@ -24,12 +33,13 @@ abbrev pub tail : Bits → Bits
 tail f k = f (suc k)
 
 -- what stands at the value 0 of an index, or what stands at 1
-abbrev pub pick : {A : Type 0} → Bool → A → A → A
-pick false a b = a
-pick true a b = b
+abbrev pub branch : {A : Type 0} → Bool → A → A → A
+branch false a b = a
+branch true a b = b
 
--- "A tensor gives a weight for each assignment of 0 or 1 to the indices": a weight where there is no index; else the tensors at 0
--- and at 1 of index 0, over the indices that follow. Tensors that agree at every assignment are equal (ValueLaws).
+-- "A tensor gives a weight for each assignment of 0 or 1 to the indices": a weight where there is no index; else the
+-- tensors at 0 and at 1 of index 0, over the indices that follow. Tensors that agree at every assignment are equal
+-- (TallyValueLaws).
 pub data Tensor : ℕ → Type 0 where
   weight : Weight → Tensor 0
   split : {d : ℕ} → Tensor d → Tensor d → Tensor (suc d)
@@ -37,7 +47,7 @@ pub data Tensor : ℕ → Type 0 where
 -- the weight at an assignment
 unfoldable pub at : {d : ℕ} → Tensor d → Bits → Weight
 at (weight w) f = w
-at (split l h) f = pick (f 0) (at l (tail f)) (at h (tail f))
+at (split l h) f = branch (f 0) (at l (tail f)) (at h (tail f))
 
 -- "Qubit q (0 to 7) owns three: input 3q, middle 3q+1, fresh 3q+2."
 abbrev pub input : ℕ → ℕ
@@ -79,14 +89,15 @@ top (split l h) = cond (same l h) (next (top l)) (some 0)
 -- "T0 and T1 are T with its index k fixed to 0 and to 1."
 unfoldable pub fix : {d : ℕ} → ℕ → Bool → Tensor d → Tensor d
 fix k b (weight w) = weight w
-fix zero b (split l h) = split (pick b l h) (pick b l h)
+fix zero b (split l h) = split (branch b l h) (branch b l h)
 fix (suc k) b (split l h) = split (fix k b l) (fix k b h)
 
 -- does T depend on k?
 unfoldable pub depends : {d : ℕ} → ℕ → Tensor d → Bool
 depends k T = not (same (fix k false T) (fix k true T))
 
--- "A tensor is normal if it is not constant and its first nonzero value is 1, reading assignments with index 0 varying slowest"
+-- "A tensor is normal if it is not constant and its first nonzero value is 1, reading assignments with index 0 varying
+-- slowest"
 unfoldable pub isZero : {d : ℕ} → Tensor d → Bool
 isZero (weight w) = sameW w 0W
 isZero (split l h) = isZero l && isZero h
@@ -116,7 +127,8 @@ scale c (split l h) = split (scale c l) (scale c h)
 unfoldable pub normal : {d : ℕ} → Tensor d → Tensor d
 normal T = scale (inverseW (first T)) T
 
--- sum: "If one is a multiple of the other", where neither is zero (that it says this: multiple-eq and multiple-of in ScaleLaws)
+-- sum: "If one is a multiple of the other", where neither is zero (that it says this: multiple-eq and multiple-of in
+-- ScaleLaws)
 unfoldable pub multiple : {d : ℕ} → Tensor d → Tensor d → Bool
 multiple A B = same (normal A) (normal B)
 
@@ -149,12 +161,29 @@ power2 zero = 1W
 power2 (suc n) = plusW (power2 n) (power2 n)
 
 -- f with b at k
-unfoldable pub set : ℕ → Bool → Bits → Bits
-set zero b f zero = b
-set zero b f (suc j) = f (suc j)
-set (suc k) b f zero = f zero
-set (suc k) b f (suc j) = set k b (tail f) j
+unfoldable pub assign : ℕ → Bool → Bits → Bits
+assign zero b f zero = b
+assign zero b f (suc j) = f (suc j)
+assign (suc k) b f zero = f zero
+assign (suc k) b f (suc j) = assign k b (tail f) j
 
 -- cont: "S' is S without k"
 abbrev pub without : ℕ → Bits → Bits
-without k S = set k false S
+without k S = assign k false S
+
+-- 2, as a weight
+unfoldable pub two : Weight
+two = plusW 1W 1W
+
+-- S without the indices below k
+unfoldable pub membersFrom : ℕ → Bits → Bits
+membersFrom zero S = S
+membersFrom (suc k) S = assign k false (membersFrom k S)
+
+-- index k renamed k - 1, in a tensor that does not depend on k - 1
+unfoldable pub renameDown : {d : ℕ} → ℕ → Tensor d → Tensor d
+renameDown k A = joined (k - 1) (fix k false A) (fix k true A)
+
+-- the tensor at 0 of index 0
+abbrev pub lowHalf : {d : ℕ} → Tensor (suc d) → Tensor d
+lowHalf (split l h) = l

@@ -1,10 +1,10 @@
--- Laws of tests: of Bool, of `pick` and `cond`, and of an option of a number.
+-- Laws of tests: of Bool, of `branch` and `cond`, and of an option of a number.
 use mathlib.Core.Path.{_≡_, refl, sym}
 use mathlib.Core.Bool.{Bool, true, false, cond, _&&_, _||_, true≢false, false≢true}
 use mathlib.Core.Option.{none, some}
 use Prim.Native.Nat.{ℕ}
 use native.Mathlib.Omega.{arith}
-use Rattle.diagram.specs.Tensor.{pick}
+use Rattle.diagram.specs.Tensor.{branch}
 
 -- by cases on a test, with its outcome in hand
 pub cases : {P : Type 0} (b : Bool) → (b ≡ true → P) → (b ≡ false → P) → P
@@ -59,21 +59,23 @@ pub or-assoc : (a b c : Bool) → (a || (b || c)) ≡ ((a || b) || c)
 or-assoc true b c = refl
 or-assoc false b c = refl
 
-pub pick-same : {A : Type 0} (b : Bool) (a : A) → pick b a a ≡ a
-pick-same true a = refl
-pick-same false a = refl
+pub branch-same : {A : Type 0} (b : Bool) (a : A) → branch b a a ≡ a
+branch-same true a = refl
+branch-same false a = refl
 
-pub pick-ap : {A B : Type 0} (f : A → B) (b : Bool) (x y : A) → f (pick b x y) ≡ pick b (f x) (f y)
-pick-ap f true x y = refl
-pick-ap f false x y = refl
+pub branch-ap : {A B : Type 0} (f : A → B) (b : Bool) (x y : A) → f (branch b x y) ≡ branch b (f x) (f y)
+branch-ap f true x y = refl
+branch-ap f false x y = refl
 
-pub pick-ap₂ : {A B C : Type 0} (f : A → B → C) (b : Bool) (x y : A) (u v : B) → f (pick b x y) (pick b u v) ≡ pick b (f x u) (f y v)
-pick-ap₂ f true x y u v = refl
-pick-ap₂ f false x y u v = refl
+pub branch-ap₂ : {A B C : Type 0} (f : A → B → C) (b : Bool) (x y : A) (u v : B)
+    → f (branch b x y) (branch b u v) ≡ branch b (f x u) (f y v)
+branch-ap₂ f true x y u v = refl
+branch-ap₂ f false x y u v = refl
 
-pub pick-swap : {A : Type 0} (a b : Bool) (x y z w : A) → pick a (pick b x y) (pick b z w) ≡ pick b (pick a x z) (pick a y w)
-pick-swap true b x y z w = refl
-pick-swap false b x y z w = refl
+pub branch-swap : {A : Type 0} (a b : Bool) (x y z w : A)
+    → branch a (branch b x y) (branch b z w) ≡ branch b (branch a x z) (branch a y w)
+branch-swap true b x y z w = refl
+branch-swap false b x y z w = refl
 
 pub cond-same : {A : Type 0} (b : Bool) (a : A) → cond b a a ≡ a
 cond-same true a = refl

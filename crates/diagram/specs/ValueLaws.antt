@@ -1,81 +1,63 @@
--- What the tally's steps answer, in document 01's words: at each assignment v, written as a number.
-use mathlib.Core.Path.{_≡_, ap, ap₂, sym, _∙_, fun-ext}
-use mathlib.Core.Logic.{_↔_}
-use mathlib.Core.Bool.{Bool, true, false}
-use Prim.Native.Nat.{ℕ, _-_, _^_, _≤_, _<_}
+-- Laws of reading a value.
+use mathlib.Core.Path.{_≡_, refl, ap, sym, _∙_}
+use mathlib.Core.Logic.{_≢_}
+use mathlib.Core.Bool.{Bool}
+use mathlib.Core.List.{List}
+use Prim.Native.Nat.{ℕ, _<_, _-_}
 use native.Mathlib.Omega.{arith}
-use Rattle.field.specs.Weight.{Weight, plusW, timesW}
-use Rattle.diagram.specs.Tensor.{Tensor, pick, Bits, bits, at, value, fix, joined, times, scale, set}
-use Rattle.diagram.specs.TensorLaws.{eq-value, at-scale, at-joined, fix-fix, fix-again, fix-joined-other}
-use Rattle.diagram.specs.RingLaws.{at-plus, at-times, fix-times}
-use Rattle.diagram.specs.FreeLaws.{Free}
-use Rattle.diagram.specs.Tally.{Set, join, sum, cont, low, build}
-use Rattle.diagram.specs.StepLaws.{join-meaning}
-use Rattle.diagram.specs.SumLaws.{sum-meaning}
-use Rattle.diagram.specs.OverLaws.{sumOver, settings, at-sumOver, fix-over-in, fix-over-out}
-use Rattle.diagram.specs.ContLaws.{cont-meaning}
-use Rattle.diagram.specs.LowLaws.{lowered, at-lowered, low-meaning, build-meaning}
+use Rattle.field.specs.Weight.{toWeight, 1W, timesW}
+use Rattle.field.specs.Field.{Represents}
+use Rattle.field.specs.RingLaws.{timesW-one, timesW-comm}
+use Rattle.diagram.specs.Tensor.{Tensor, bits, at, value, fix, scale, constant, indices, indexCount}
+use Rattle.diagram.specs.TensorLaws.{at-fix, at-scale, at-constant}
+use Rattle.diagram.specs.Meaning.{Valid}
+use Rattle.diagram.specs.CanonicalLaws.{edge-constant}
+use Rattle.diagram.specs.Engine.{nodesOf, setOf, tensorOf, levelOf, Sound}
+use Rattle.diagram.specs.EdgeLaws.{index-inside}
+use Rattle.diagram.specs.Edge.{CofactorRequires, IsCofactor}
+use Rattle.diagram.specs.BitsLaws.{assign-same}
+use Rattle.diagram.specs.Value.{ValueLoop}
+use Rattle.diagram.specs.declared.node.Edge.{Edge}
+use Rattle.diagram.specs.declared.make.State.{State}
 
--- two tensors are equal exactly when they have the same value at every assignment
-pub agree-exactly : {d : ℕ} (A B : Tensor d) → (A ≡ B) ↔ ((v : ℕ) → v < 2 ^ d → value A v ≡ value B v)
-agree-exactly A B = (λ e v p. ap (λ T. value T v) e, eq-value A B)
+pub value-start : {s : List ℕ} {st : State} {a : Edge} (v : ℕ) → Valid (st .count) a
+    → ValueLoop s st a v (a .weight) (a .node)
+value-start v h = record { valid = h; is = refl }
 
-pub scale-value : {d : ℕ} (c : Weight) (T : Tensor d) (v : ℕ) → value (scale c T) v ≡ timesW c (value T v)
+value-fix : {d : ℕ} (T : Tensor d) (k v : ℕ) (b : Bool) → b ≡ bits v k → value (fix k b T) v ≡ value T v
 unfolding value
-scale-value c T v = at-scale c T (bits v)
+value-fix T k v b e = at-fix k b T (bits v) ∙ ap (at T) (assign-same k (bits v) b (sym e))
 
-module _ {d : ℕ} (s : Set d) where
-  -- "the tensor that is L at k=0 and H at k=1"
-  pub join-value : (k : ℕ) (L H : Tensor d) (v : ℕ) → k < d → value (join k L H s .0) v ≡ pick (bits v k) (value L v) (value H v)
-  unfolding value
-  join-value k L H v p = rw (join-meaning k L H s) (at-joined k L H (bits v) p)
+module _ {s : List ℕ} {st : State} {a : Edge} {v w n : ℕ} (held : Sound s st) (r : ValueLoop s st a v w n)
+    (some : n ≢ 0) {k : ℕ}
+    (top : k ≡ levelOf s st (record { weight = w; node = n })) where
+  pub value-inside : k < indexCount
+  value-inside = omega (arith, index-inside s st held (record { weight = w; node = n }) (r .valid) some)
 
-  -- "At each assignment sum adds the two values"
-  pub sum-value : (A B : Tensor d) (v : ℕ) → value (sum A B s .0) v ≡ plusW (value A v) (value B v)
-  unfolding value
-  sum-value A B v = rw (sum-meaning A B s) (at-plus A B (bits v))
+  pub value-index : k < 64
+  value-index = omega (arith, value-inside)
 
-  -- "and cont adds their products over all settings of S"
-  pub cont-value : (A B : Tensor d) (S : Bits) (v : ℕ) → value (cont A B S s .0) v ≡ settings d S (λ f. timesW (at A f) (at B f)) (bits v)
-  unfolding value
-  cont-value A B S v = rw (cont-meaning A B S s) (at-sumOver S _ (bits v) ∙ ap (λ g. settings d S g (bits v)) (fun-ext (at-times A B)))
+  pub value-fixable : CofactorRequires s st (record { weight = w; node = n }) k
+  value-fixable = record { valid = r .valid; inside = value-inside; level = omega arith }
 
-  -- "index k is renamed k-1", where A does not depend on k - 1: index k takes the value of k - 1
-  pub low-value : (k : ℕ) (A : Tensor d) (v : ℕ) → 1 ≤ k → k < d → Free (k - 1) A
-      → value (low k A s .0) v ≡ at A (set k (bits v (k - 1)) (bits v))
-  unfolding value
-  low-value k A v n p f = rw (low-meaning k A n p f s) (at-lowered k A (bits v) (omega arith))
+  module _ {b : Bool} {f : Edge} (c : IsCofactor s st (record { weight = w; node = n }) k b f) where
+    pub value-on : b ≡ bits v k → ValueLoop s st a v (f .weight) (f .node)
+    value-on e = record { valid = c .valid; is = ap (λ T. value T v) (c .is) ∙ value-fix _ k v b e ∙ r .is }
 
-  pub build-value : (T : Tensor d) (v : ℕ) → value (build T s .0) v ≡ value T v
-  build-value T v = rw (build-meaning T s)
+    pub value-less : indexCount - levelOf s st (record { weight = f .weight; node = f .node }) < indexCount - levelOf s
+        st (record { weight = w; node = n })
+    value-less = omega (arith, c .above, value-inside)
 
--- which indices an answer does not depend on
-
-module _ {d : ℕ} (s : Set d) where
-  -- what is contracted over S does not depend on S
-  pub cont-free : (k : ℕ) (A B : Tensor d) (S : Bits) → k < d → S k ≡ true → Free k (cont A B S s .0)
-  cont-free k A B S p e =
-      rw (cont-meaning A B S s) (record { is = fix-over-in k false S _ p e ∙ sym (fix-over-in k true S _ p e) })
-
-  pub cont-free-other : (k : ℕ) (A B : Tensor d) (S : Bits) → S k ≡ false → Free k A → Free k B → Free k (cont A B S s .0)
-  cont-free-other k A B S e f g =
-      rw (cont-meaning A B S s)
-      (record { is = fix-over-out k false S _ e ∙ ap (sumOver S) product ∙ sym (fix-over-out k true S _ e) })
-    where
-      product : fix k false (times A B) ≡ fix k true (times A B)
-      product = fix-times k false A B ∙ ap₂ times (f .is) (g .is) ∙ sym (fix-times k true A B)
-
-  module _ (k : ℕ) (A : Tensor d) (n : 1 ≤ k) (p : k < d) (f : Free (k - 1) A) where
-    -- after index k is renamed, nothing depends on it
-    pub low-free : Free k (low k A s .0)
-    low-free = rw (low-meaning k A n p f s) (record { is = at-k false ∙ sym (at-k true) })
-      where
-        at-k : (b : Bool) → fix k b (lowered k A) ≡ lowered k A
-        at-k b = unfold lowered in fix-joined-other k (k - 1) b _ _ (λ e. omega arith) ∙ ap₂ (joined (k - 1)) (fix-again k b false A) (fix-again k b true A)
-
-    -- and the other indices are left alone
-    pub low-free-other : (j : ℕ) → (j ≡ k → ⊥) → (j ≡ k - 1 → ⊥) → Free j A → Free j (low k A s .0)
-    low-free-other j ne ne' g = rw (low-meaning k A n p f s) (record { is = at-j false ∙ ap (lowered k) (g .is) ∙ sym (at-j true) })
-      where
-        at-j : (b : Bool) → fix j b (lowered k A) ≡ lowered k (fix j b A)
-        at-j b = unfold lowered in fix-joined-other j (k - 1) b _ _ ne' ∙ ap₂ (joined (k - 1)) (fix-fix j k b false A ne) (fix-fix j k b true A ne)
+pub value-end : {s : List ℕ} {st : State} {a : Edge} {v w n : ℕ} → Sound s st → ValueLoop s st a v w n → n ≡ 0
+    → Represents w (value (tensorOf s st a) v)
+unfolding value
+value-end {s} {st} {a} {v} {w} {n} held r z = record {
+  small = r .valid .small;
+  is = sym (timesW-comm (toWeight w) 1W ∙ timesW-one (toWeight w))
+      ∙ ap (timesW (toWeight w)) (sym (at-constant indices 1W (bits v)))
+      ∙ sym (at-scale (toWeight w) (constant indices 1W) (bits v)) ∙ ap (λ T. at T (bits v)) (sym leaf) ∙ r .is;
+}
+  where
+    leaf : tensorOf s st (record { weight = w; node = n }) ≡ scale (toWeight w) (constant indices 1W)
+    leaf =
+        unfold tensorOf setOf in edge-constant indices (nodesOf s st) (held .nodes) (record { weight = w; node = n }) z

@@ -1,9 +1,14 @@
 // The operation cache: remembered results, in a lent slice of any length.
 // An entry is four words: the operation and its nodes, its argument, the epoch, the result.
 use crate::node::Edge;
+use crate::node::NodeNumber;
 ghost use mathlib.Core.Path.{_≡_};
 ghost use Prim.Native.Nat.{_≤_, _<_};
-ghost use Rattle.diagram.specs.Cache.{codeOf, pack, Narrow, Fit, LookedUp, Kept, Blank, Past, Stepped};
+ghost use Rattle.diagram.specs.Cache.{codeOf, pack, KeyFits, EdgeFits, LookupEnsures, RememberEnsures, AllZero};
+ghost use Rattle.diagram.specs.Cache.{NoneLater, AllEarlier};
+
+// Results are remembered for an epoch; it steps where they become stale.
+pub type Epoch = u64;
 
 pub enum Op {
     Sum,
@@ -11,12 +16,12 @@ pub enum Op {
     Lower,
 }
 
-// Everything that a result depends on: the operation, its two nodes (lowering has one, twice), and for sum the ratio of the weights,
-// for contraction the set S, for lowering the index.
+// Everything that a result depends on: the operation, its two nodes (lowering has one, twice), and for sum the ratio of
+// the weights, for contraction the set S, for lowering the index.
 pub struct Key {
     pub op: Op,
-    pub left: usize,
-    pub right: usize,
+    pub left: NodeNumber,
+    pub right: NodeNumber,
     pub arg: u64,
 }
 
@@ -49,7 +54,7 @@ fn code(op: Op) -> u64
 
 // The operation and the nodes in one word.
 fn packed(key: Key) -> u64
-    requires { ⌜ Narrow key ⌝ }
+    requires { ⌜ KeyFits key ⌝ }
     ensures { λ r. ⌜ r ≡ pack key ⌝ }
 {
     let op = key.op;
@@ -59,9 +64,10 @@ fn packed(key: Key) -> u64
     n * 4294967296 + left * 65536 + right
 }
 
-// The entry of a key, one of so many. Close nodes have close entries, as in the unique table. A power of 2 needs no division.
+// The entry of a key, one of so many. Close nodes have close entries, as in the unique table. A power of 2 needs no
+// division.
 fn place(slots: usize, key: Key) -> usize
-    requires { ⌜ (1 ≤ slots) × Narrow key ⌝ }
+    requires { ⌜ (1 ≤ slots) × KeyFits key ⌝ }
     ensures { λ i. ⌜ i < slots ⌝ }
 {
     let left = key.left;
@@ -75,9 +81,9 @@ fn place(slots: usize, key: Key) -> usize
     m % slots
 }
 
-pub(crate) fn lookup(cache: &[u64], epoch: u64, key: Key) -> Found
-    requires { ⌜ Narrow key ⌝ }
-    ensures { λ f. ⌜ LookedUp (now (cache .entry)) epoch key f ⌝ }
+pub(crate) fn lookup(cache: &[u64], epoch: Epoch, key: Key) -> Found
+    requires { ⌜ KeyFits key ⌝ }
+    ensures { λ f. ⌜ LookupEnsures (now (cache .entry)) epoch key f ⌝ }
 {
     let slots = cache.len() / 4;
     if slots == 0 {
@@ -104,9 +110,9 @@ pub(crate) fn lookup(cache: &[u64], epoch: u64, key: Key) -> Found
     })
 }
 
-pub(crate) fn remember(cache: &mut [u64], epoch: u64, key: Key, e: Edge)
-    requires { ⌜ Narrow key × Fit e ⌝ }
-    ensures { λ _. ⌜ Kept (now (cache .entry)) (now (cache .exit)) epoch key e ⌝ }
+pub(crate) fn remember(cache: &mut [u64], epoch: Epoch, key: Key, e: Edge)
+    requires { ⌜ KeyFits key × EdgeFits e ⌝ }
+    ensures { λ _. ⌜ RememberEnsures (now (cache .entry)) (now (cache .exit)) epoch key e ⌝ }
 {
     let slots = cache.len() / 4;
     if slots == 0 {
@@ -127,7 +133,7 @@ pub(crate) fn remember(cache: &mut [u64], epoch: u64, key: Key, e: Edge)
 
 // Forgets everything: no entry is of an epoch from 1 on.
 pub(crate) fn clear(cache: &mut [u64])
-    ensures { λ _. ⌜ Blank (now (cache .exit)) ⌝ }
+    ensures { λ _. ⌜ AllZero (now (cache .exit)) ⌝ }
 {
     let mut i = 0;
     while i < cache.len() {
@@ -137,9 +143,9 @@ pub(crate) fn clear(cache: &mut [u64])
 }
 
 // An epoch that no entry is of. At the largest one everything is forgotten, so that an epoch never comes twice.
-pub(crate) fn step(cache: &mut [u64], epoch: u64) -> u64
-    requires { ⌜ Past (now cache) epoch ⌝ }
-    ensures { λ r. ⌜ Stepped (now (cache .exit)) r ⌝ }
+pub(crate) fn step(cache: &mut [u64], epoch: Epoch) -> Epoch
+    requires { ⌜ NoneLater (now cache) epoch ⌝ }
+    ensures { λ r. ⌜ AllEarlier (now (cache .exit)) r ⌝ }
 {
     if epoch == 18446744073709551615 {
         clear(cache);

@@ -8,9 +8,9 @@ use crate::restore;
 ghost use Prim.Native.Nat.{_*_, _≤_, _<_};
 ghost use lib.ListN.{length};
 ghost use Rattle.diagram.specs.Node.{nodeAt};
-ghost use Rattle.diagram.specs.Mark.{Down};
-ghost use Rattle.diagram.specs.Registers.{Registered};
-ghost use Rattle.diagram.specs.Collecting.{Sweeps, Collectable, Collected as Collects};
+ghost use Rattle.diagram.specs.Mark.{ChildrenBefore};
+ghost use Rattle.diagram.specs.Registers.{RegistersValid};
+ghost use Rattle.diagram.specs.Collect.{SweepEnsures, CollectRequires, CollectEnsures};
 
 struct Swept {
     count: usize,
@@ -24,8 +24,10 @@ pub struct Collected {
 
 // Moves the reached nodes down; the answer is how many they are, and the registers with their nodes' new numbers.
 fn sweep(store: &mut [u8], count: usize, registers: Registers) -> Swept
-    requires { ⌜ (16 * count ≤ length (now store)) × ((count < 65536) × (Down (nodeAt (now store)) count × Registered count (registers .all))) ⌝ }
-    ensures { λ r. ⌜ Sweeps count (registers .all) (now (store .entry)) (now (store .exit)) (r .count) (r .registers .all) ⌝ }
+    requires { ⌜ (16 * count ≤ length (now store)) × ((count < 65536) ×
+        (ChildrenBefore (nodeAt (now store)) count × RegistersValid count (registers .all))) ⌝ }
+    ensures { λ r. ⌜ SweepEnsures count (registers .all) (now (store .entry)) (now (store .exit)) (r .count)
+        (r .registers .all) ⌝ }
 {
     mark::reach(store, count, registers);
     let kept = compact::compact(store, count);
@@ -36,8 +38,8 @@ fn sweep(store: &mut [u8], count: usize, registers: Registers) -> Swept
     }
 }
 
-// Fewer buckets for far fewer nodes, so that the next table costs in proportion to the nodes; some to spare, since the next gate makes about
-// as many nodes again.
+// Fewer buckets for far fewer nodes, so that the next table costs in proportion to the nodes; some to spare, since the
+// next gate makes about as many nodes again.
 fn fewer(count: usize, buckets: usize) -> usize
     ensures { λ r. ⌜ (1 ≤ buckets → (1 ≤ r) × (r ≤ buckets)) ⌝ }
 {
@@ -49,8 +51,9 @@ fn fewer(count: usize, buckets: usize) -> usize
 }
 
 pub fn collect(store: &mut [u8], cache: &mut [u64], s: State, registers: Registers) -> Collected
-    requires { ⌜ Collectable (now cache) (now store) s (registers .all) ⌝ }
-    ensures { λ r. ⌜ Collects (now (cache .exit)) (now (store .entry)) (now (store .exit)) s (r .state) (registers .all) (r .registers .all) ⌝ }
+    requires { ⌜ CollectRequires (now cache) (now store) s (registers .all) ⌝ }
+    ensures { λ r. ⌜ CollectEnsures (now (cache .exit)) (now (store .entry)) (now (store .exit)) s (r .state)
+        (registers .all) (r .registers .all) ⌝ }
 {
     let swept = sweep(store, s.count, registers);
     let count = swept.count;

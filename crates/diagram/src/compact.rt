@@ -3,6 +3,7 @@ use crate::fields;
 use crate::node;
 use crate::node::Edge;
 use crate::node::Node;
+use crate::node::NodeNumber;
 use crate::registers::Register;
 use crate::registers::Registers;
 ghost use mathlib.Core.Path.{_≡_};
@@ -10,13 +11,14 @@ ghost use mathlib.Core.Logic.{_≢_};
 ghost use Prim.Native.Nat.{_+_, _*_, _-_, _≤_, _<_};
 ghost use lib.ListN.{length};
 ghost use Rattle.diagram.specs.Fields.{field};
-ghost use Rattle.diagram.specs.Node.{Narrow, Within, nodeAt};
-ghost use Rattle.diagram.specs.Compact.{Children, Closed, forward as forwarded, shifted, renumbered, Stepped, Compacted};
-ghost use Rattle.diagram.specs.Registers.{Registered};
-ghost use Rattle.diagram.specs.Renumber.{renumber as renumberedBy, renumberAll};
+ghost use Rattle.diagram.specs.Node.{NodeFits, RecordWithin, nodeAt};
+ghost use Rattle.diagram.specs.Compact.{ChildrenWithin, MarksClosed, forward as forwarded, shiftNode};
+ghost use Rattle.diagram.specs.Compact.{renumberNode, CompactStepEnsures, CompactEnsures, renumberRegister};
+ghost use Rattle.diagram.specs.Compact.{renumberRegisters};
+ghost use Rattle.diagram.specs.Registers.{RegistersValid};
 
 // The new number of the child c.
-fn forward(s: &[u8], c: usize) -> usize
+fn forward(s: &[u8], c: NodeNumber) -> NodeNumber
     requires { ⌜ 16 * c ≤ length (now s) ⌝ }
     ensures { λ r. ⌜ (r ≡ forwarded (now (s .entry)) c) × (r < 65536) ⌝ }
 {
@@ -27,9 +29,10 @@ fn forward(s: &[u8], c: usize) -> usize
 }
 
 // Node n becomes node k, with its children's new numbers.
-fn shift(s: &mut [u8], n: usize, k: usize)
-    requires { ⌜ Within (now s) n × (Within (now s) k × ((k < 65536) × Children (now s) n)) ⌝ }
-    ensures { λ _. ⌜ (now (s .exit) ≡ shifted n k (now (s .entry))) × Narrow (renumbered (forwarded (now (s .entry))) (nodeAt (now (s .entry)) n)) ⌝ }
+fn shift(s: &mut [u8], n: NodeNumber, k: NodeNumber)
+    requires { ⌜ RecordWithin (now s) n × (RecordWithin (now s) k × ((k < 65536) × ChildrenWithin (now s) n)) ⌝ }
+    ensures { λ _. ⌜ (now (s .exit) ≡ shiftNode n k (now (s .entry))) × NodeFits
+        (renumberNode (forwarded (now (s .entry))) (nodeAt (now (s .entry)) n)) ⌝ }
 {
     let x = node::read(s, n);
     let low = forward(s, x.low.node);
@@ -51,8 +54,9 @@ fn shift(s: &mut [u8], n: usize, k: usize)
 
 // Looks at node m + 1, where k nodes have moved; the answer is how many have then.
 fn step(s: &mut [u8], count: usize, m: usize, k: usize) -> usize
-    requires { ⌜ (m < count) × ((16 * count ≤ length (now s)) × ((count < 65536) × ((k ≤ m) × (field (now s) 5 m ≢ 0 → Children (now s) (m + 1))))) ⌝ }
-    ensures { λ r. ⌜ Stepped count (now (s .entry)) (now (s .exit)) m k r ⌝ }
+    requires { ⌜ (m < count) × ((16 * count ≤ length (now s)) ×
+        ((count < 65536) × ((k ≤ m) × (field (now s) 5 m ≢ 0 → ChildrenWithin (now s) (m + 1))))) ⌝ }
+    ensures { λ r. ⌜ CompactStepEnsures count (now (s .entry)) (now (s .exit)) m k r ⌝ }
 {
     let mark = fields::get(s, 5, m);
     if mark == 0 {
@@ -65,8 +69,9 @@ fn step(s: &mut [u8], count: usize, m: usize, k: usize) -> usize
 
 // Moves the marked nodes of 1 .. count down; the answer is how many they are.
 pub(crate) fn compact(s: &mut [u8], count: usize) -> usize
-    requires { ⌜ (16 * count ≤ length (now s)) × ((count < 65536) × Closed (λ n. field (now s) 5 (n - 1)) (nodeAt (now s)) count) ⌝ }
-    ensures { λ r. ⌜ Compacted (now (s .entry)) (now (s .exit)) count r ⌝ }
+    requires { ⌜ (16 * count ≤ length (now s)) × ((count < 65536) × MarksClosed (λ n. field (now s) 5 (n - 1))
+        (nodeAt (now s)) count) ⌝ }
+    ensures { λ r. ⌜ CompactEnsures (now (s .entry)) (now (s .exit)) count r ⌝ }
 {
     let mut m = 0;
     let mut k: usize = 0;
@@ -80,7 +85,7 @@ pub(crate) fn compact(s: &mut [u8], count: usize) -> usize
 // A register with its node's new number.
 fn moved(s: &[u8], r: Register) -> Register
     requires { ⌜ (r .filled ≡ 1 → 16 * r .edge .node ≤ length (now s)) ⌝ }
-    ensures { λ x. ⌜ x ≡ renumberedBy (forwarded (now (s .entry))) r ⌝ }
+    ensures { λ x. ⌜ x ≡ renumberRegister (forwarded (now (s .entry))) r ⌝ }
 {
     if r.filled == 1 {
         let weight = r.edge.weight;
@@ -95,8 +100,8 @@ fn moved(s: &[u8], r: Register) -> Register
 
 // The registers with their nodes' new numbers.
 pub(crate) fn renumber(s: &[u8], count: usize, registers: Registers) -> Registers
-    requires { ⌜ (16 * count ≤ length (now s)) × Registered count (registers .all) ⌝ }
-    ensures { λ r. ⌜ r .all ≡ renumberAll (forwarded (now (s .entry))) (registers .all) ⌝ }
+    requires { ⌜ (16 * count ≤ length (now s)) × RegistersValid count (registers .all) ⌝ }
+    ensures { λ r. ⌜ r .all ≡ renumberRegisters (forwarded (now (s .entry))) (registers .all) ⌝ }
 {
     let mut out = registers;
     let mut i = 0;

@@ -1,20 +1,21 @@
 // Comparing two edges (document 01, `cmp`).
 use crate::node::Edge;
+use crate::node::Weight;
 ghost use Prim.Native.Nat.{_<_};
-ghost use Rattle.field.specs.Weight.{toWeight, timesW, inverseW};
-ghost use Rattle.field.specs.Code.{Stands};
-ghost use Rattle.diagram.specs.Compare.{Compares};
+ghost use Rattle.field.specs.Weight.{toWeight, timesW, inverseW, modulus};
+ghost use Rattle.field.specs.Field.{Represents};
+ghost use Rattle.diagram.specs.Compare.{CompareEnsures};
 
 // The first tensor is the second; or it is so many times the second, neither 0 nor 1 times; or neither.
 pub enum Comparison {
     Same,
-    Factor(u64),
+    Factor(Weight),
     Differ,
 }
 
-fn ratio(v: u64, w: u64) -> u64
-    requires { ⌜ (v < 65537) × (w < 65537) ⌝ }
-    ensures { λ r. ⌜ Stands r (timesW (toWeight v) (inverseW (toWeight w))) ⌝ }
+fn ratio(v: Weight, w: Weight) -> Weight
+    requires { ⌜ (v < modulus) × (w < modulus) ⌝ }
+    ensures { λ r. ⌜ Represents r (timesW (toWeight v) (inverseW (toWeight w))) ⌝ }
 {
     let i = field::inverse(w);
     field::mul(v, i)
@@ -22,8 +23,8 @@ fn ratio(v: u64, w: u64) -> u64
 
 // Edges of one store have the same tensor, or multiples of one, only at the same node.
 pub fn compare(a: Edge, b: Edge) -> Comparison
-    requires { ⌜ (a .weight < 65537) × (b .weight < 65537) ⌝ }
-    ensures { λ r. ⌜ Compares a b r ⌝ }
+    requires { ⌜ (a .weight < modulus) × (b .weight < modulus) ⌝ }
+    ensures { λ r. ⌜ CompareEnsures a b r ⌝ }
 {
     let v = a.weight;
     let w = b.weight;

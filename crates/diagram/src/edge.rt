@@ -2,30 +2,34 @@
 use crate::make::State;
 use crate::node;
 use crate::node::Edge;
+use crate::node::INDICES;
+use crate::node::Index;
+use crate::node::Weight;
 ghost use mathlib.Core.Path.{_≡_};
 ghost use Prim.Native.Nat.{_≤_, _<_};
+ghost use Rattle.field.specs.Weight.{modulus};
+ghost use Rattle.diagram.specs.Tensor.{indexCount};
 ghost use Rattle.diagram.specs.Meaning.{Valid};
 ghost use Rattle.diagram.specs.Engine.{Sound, levelOf};
-ghost use Rattle.diagram.specs.Edge.{Times, Added};
-ghost use Rattle.diagram.specs.Cofactor.{Cofactor, Fixable};
+ghost use Rattle.diagram.specs.Edge.{IsMultiple, IsSum, IsCofactor, CofactorRequires};
 
-// The index of the edge's node; 24 for a constant.
-pub(crate) fn top(store: &[u8], s: State, a: Edge) -> usize
+// The index of the edge's node; the number of indices for a constant.
+pub(crate) fn top(store: &[u8], s: State, a: Edge) -> Index
     requires { ⌜ Sound (now store) s × Valid (s .count) a ⌝ }
-    ensures { λ r. ⌜ (r ≡ levelOf (now (store .entry)) s a) × (r ≤ 24) ⌝ }
+    ensures { λ r. ⌜ (r ≡ levelOf (now (store .entry)) s a) × (r ≤ indexCount) ⌝ }
 {
     let n = a.node;
     if n == 0 {
-        return 24;
+        return INDICES;
     }
     let x = node::read(store, n);
     x.index
 }
 
 // w times e.
-pub(crate) fn times(w: u64, e: Edge) -> Edge
-    requires { ⌜ (w < 65537) × (e .weight < 65537) ⌝ }
-    ensures { λ r. ⌜ Times w e r ⌝ }
+pub(crate) fn times(w: Weight, e: Edge) -> Edge
+    requires { ⌜ (w < modulus) × (e .weight < modulus) ⌝ }
+    ensures { λ r. ⌜ IsMultiple w e r ⌝ }
 {
     let v = e.weight;
     let n = e.node;
@@ -35,8 +39,8 @@ pub(crate) fn times(w: u64, e: Edge) -> Edge
 
 // a and b, which lead to one node, added.
 pub(crate) fn added(a: Edge, b: Edge) -> Edge
-    requires { ⌜ (a .weight < 65537) × (b .weight < 65537) ⌝ }
-    ensures { λ r. ⌜ Added a b r ⌝ }
+    requires { ⌜ (a .weight < modulus) × (b .weight < modulus) ⌝ }
+    ensures { λ r. ⌜ IsSum a b r ⌝ }
 {
     let v = a.weight;
     let w = b.weight;
@@ -49,9 +53,9 @@ pub(crate) fn added(a: Edge, b: Edge) -> Edge
 }
 
 // a with the index k fixed.
-pub(crate) fn cofactor(store: &[u8], s: State, a: Edge, k: usize, high: bool) -> Edge
-    requires { ⌜ Sound (now store) s × Fixable (now store) s a k ⌝ }
-    ensures { λ r. ⌜ Cofactor (now (store .entry)) s a k high r ⌝ }
+pub(crate) fn cofactor(store: &[u8], s: State, a: Edge, k: Index, high: bool) -> Edge
+    requires { ⌜ Sound (now store) s × CofactorRequires (now store) s a k ⌝ }
+    ensures { λ r. ⌜ IsCofactor (now (store .entry)) s a k high r ⌝ }
 {
     let n = a.node;
     if n == 0 {

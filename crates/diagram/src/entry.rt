@@ -1,17 +1,21 @@
 // The entries of a gate's tensor, at an assignment whose bit k is the value of index k.
 use crate::gate;
 use crate::gate::Gate;
+use crate::gate::Qubit;
 use crate::mask;
+use crate::mask::Assignment;
+use crate::node::Index;
+use crate::node::Weight;
 ghost use mathlib.Core.Path.{_≡_};
 ghost use mathlib.Core.List.{[]};
 ghost use Prim.Native.Nat.{_+_, _*_, _<_};
 ghost use lib.ListN.{getD};
-ghost use Rattle.field.specs.Code.{Stands};
+ghost use Rattle.field.specs.Field.{Represents};
 ghost use Rattle.diagram.specs.Tensor.{bits, middle, fresh};
-ghost use Rattle.diagram.specs.Gates.{bit as bitOf, entry as entryOf};
-ghost use Rattle.diagram.specs.Entry.{Allowed};
+ghost use Rattle.diagram.specs.Gate.{bit as bitOf, entry as entryOf};
+ghost use Rattle.diagram.specs.Entry.{QubitsInRange};
 
-fn bit(v: u64, k: usize) -> usize
+fn bit(v: Assignment, k: Index) -> usize
     requires { ⌜ k < 64 ⌝ }
     ensures { λ r. ⌜ (r ≡ bitOf (bits v k)) × (r < 2) ⌝ }
 {
@@ -19,7 +23,7 @@ fn bit(v: u64, k: usize) -> usize
 }
 
 // A gate on the qubit q: rows are its fresh index, columns its middle one.
-fn single(m: [[u64; 2]; 2], q: usize, v: u64) -> u64
+fn single(m: [[Weight; 2]; 2], q: Qubit, v: Assignment) -> Weight
     requires { ⌜ q < 8 ⌝ }
     ensures { λ r. ⌜ r ≡ getD (getD m (bitOf (bits v (fresh q))) []) (bitOf (bits v (middle q))) 0 ⌝ }
 {
@@ -29,7 +33,7 @@ fn single(m: [[u64; 2]; 2], q: usize, v: u64) -> u64
 }
 
 // A gate on the qubits a and b: rows are their fresh indices, columns their middle ones, a's counting double.
-fn pair(m: [[u64; 4]; 4], a: usize, b: usize, v: u64) -> u64
+fn pair(m: [[Weight; 4]; 4], a: Qubit, b: Qubit, v: Assignment) -> Weight
     requires { ⌜ (a < 8) × (b < 8) ⌝ }
     ensures { λ r. ⌜ r ≡ getD (getD m (2 * bitOf (bits v (fresh a)) + bitOf (bits v (fresh b))) [])
         (2 * bitOf (bits v (middle a)) + bitOf (bits v (middle b))) 0 ⌝ }
@@ -43,9 +47,9 @@ fn pair(m: [[u64; 4]; 4], a: usize, b: usize, v: u64) -> u64
     m[row][column]
 }
 
-pub(crate) fn entry(g: Gate, v: u64) -> u64
-    requires { ⌜ Allowed g ⌝ }
-    ensures { λ r. ⌜ Stands r (entryOf g (bits v)) ⌝ }
+pub(crate) fn entry(g: Gate, v: Assignment) -> Weight
+    requires { ⌜ QubitsInRange g ⌝ }
+    ensures { λ r. ⌜ Represents r (entryOf g (bits v)) ⌝ }
 {
     let a = gate::first(g);
     let b = gate::second(g);

@@ -1,25 +1,28 @@
 // The gates (document 01, "Gates").
+use crate::node::Weight;
 ghost use mathlib.Core.Path.{_≡_};
-ghost use Rattle.diagram.specs.Gates.{numbers, matrix as matrixOf, shape as shapeOf};
-ghost use Rattle.diagram.specs.Matrices.{first as firstOf, second as secondOf};
+ghost use Rattle.diagram.specs.Gate.{numbers, matrix as matrixOf, shape as shapeOf, firstQubit, secondQubit};
+
+// One of the qubits 0 to 7.
+pub type Qubit = usize;
 
 // A gate on its qubit, or on its two: for CX the control first.
 pub enum Gate {
-    X(usize),
-    Y(usize),
-    Z(usize),
-    H(usize),
-    S(usize),
-    Sd(usize),
-    T(usize),
-    Td(usize),
-    Cx(usize, usize),
-    Cz(usize, usize),
-    Sw(usize, usize),
+    X(Qubit),
+    Y(Qubit),
+    Z(Qubit),
+    H(Qubit),
+    S(Qubit),
+    Sd(Qubit),
+    T(Qubit),
+    Td(Qubit),
+    Cx(Qubit, Qubit),
+    Cz(Qubit, Qubit),
+    Sw(Qubit, Qubit),
 }
 
 // A one-qubit gate: rows output (fresh), columns input (middle). Zeros for a gate on two qubits.
-pub(crate) fn matrix(g: Gate) -> [[u64; 2]; 2]
+pub(crate) fn matrix(g: Gate) -> [[Weight; 2]; 2]
     ensures { λ r. ⌜ r ≡ numbers (matrixOf g) ⌝ }
 {
     match g {
@@ -39,8 +42,8 @@ pub(crate) fn matrix(g: Gate) -> [[u64; 2]; 2]
 
 // A gate's qubit, or its two.
 pub enum Shape {
-    One(usize),
-    Two(usize, usize),
+    One(Qubit),
+    Two(Qubit, Qubit),
 }
 
 pub fn shape_of(g: Gate) -> Shape
@@ -60,8 +63,8 @@ pub fn shape_of(g: Gate) -> Shape
 }
 
 // The gate's qubit, or its first.
-pub(crate) fn first(g: Gate) -> usize
-    ensures { λ r. ⌜ r ≡ firstOf g ⌝ }
+pub(crate) fn first(g: Gate) -> Qubit
+    ensures { λ r. ⌜ r ≡ firstQubit g ⌝ }
 {
     match shape_of(g) {
         Shape::One(q) => q,
@@ -70,8 +73,8 @@ pub(crate) fn first(g: Gate) -> usize
 }
 
 // The gate's qubit again, or its second.
-pub(crate) fn second(g: Gate) -> usize
-    ensures { λ r. ⌜ r ≡ secondOf g ⌝ }
+pub(crate) fn second(g: Gate) -> Qubit
+    ensures { λ r. ⌜ r ≡ secondQubit g ⌝ }
 {
     match shape_of(g) {
         Shape::One(q) => q,

@@ -2,18 +2,19 @@
 use crate::fields;
 use crate::node;
 use crate::node::Node;
+use crate::node::NodeNumber;
 use crate::table;
 ghost use mathlib.Core.Path.{_≡_};
 ghost use Prim.Native.Nat.{_+_, _*_, _≤_, _<_};
 ghost use lib.ListN.{length};
-ghost use Rattle.diagram.specs.Node.{Within, Narrow};
-ghost use Rattle.diagram.specs.Table.{Indexed};
-ghost use Rattle.diagram.specs.Insert.{linked, Ready, Appended, Cleared, Rebuilt};
+ghost use Rattle.diagram.specs.Node.{RecordWithin, NodeFits};
+ghost use Rattle.diagram.specs.Table.{TableSound};
+ghost use Rattle.diagram.specs.Insert.{linkNode, TableFits, AppendEnsures, ClearEnsures, RebuildEnsures};
 
 // Puts node n at the front of its chain.
-fn link(s: &mut [u8], buckets: usize, n: usize)
-    requires { ⌜ Within (now s) n × Ready (now s) n buckets ⌝ }
-    ensures { λ _. ⌜ now (s .exit) ≡ linked buckets n (now (s .entry)) ⌝ }
+fn link(s: &mut [u8], buckets: usize, n: NodeNumber)
+    requires { ⌜ RecordWithin (now s) n × TableFits (now s) n buckets ⌝ }
+    ensures { λ _. ⌜ now (s .exit) ≡ linkNode buckets n (now (s .entry)) ⌝ }
 {
     let b = table::hash(buckets, node::read(s, n));
     let h = fields::get(s, 4, b);
@@ -23,8 +24,9 @@ fn link(s: &mut [u8], buckets: usize, n: usize)
 
 // One more node, x, after count nodes.
 pub(crate) fn append(s: &mut [u8], count: usize, buckets: usize, x: Node)
-    requires { ⌜ Indexed (now s) count buckets × (Within (now s) (count + 1) × ((count + 1 < 65536) × Narrow x)) ⌝ }
-    ensures { λ _. ⌜ Appended (now (s .entry)) (now (s .exit)) count buckets x ⌝ }
+    requires { ⌜ TableSound (now s) count buckets × (RecordWithin (now s) (count + 1) ×
+        ((count + 1 < 65536) × NodeFits x)) ⌝ }
+    ensures { λ _. ⌜ AppendEnsures (now (s .entry)) (now (s .exit)) count buckets x ⌝ }
 {
     let n = count + 1;
     node::write(s, n, x);
@@ -34,7 +36,7 @@ pub(crate) fn append(s: &mut [u8], count: usize, buckets: usize, x: Node)
 // Empties the buckets.
 fn clear(s: &mut [u8], buckets: usize)
     requires { ⌜ 16 * buckets ≤ length (now s) ⌝ }
-    ensures { λ _. ⌜ Cleared (now (s .entry)) (now (s .exit)) buckets ⌝ }
+    ensures { λ _. ⌜ ClearEnsures (now (s .entry)) (now (s .exit)) buckets ⌝ }
 {
     let mut b = 0;
     while b < buckets {
@@ -45,8 +47,8 @@ fn clear(s: &mut [u8], buckets: usize)
 
 // Makes the table anew, whatever the heads and nexts are.
 pub(crate) fn rebuild(s: &mut [u8], count: usize, buckets: usize)
-    requires { ⌜ (16 * count ≤ length (now s)) × Ready (now s) count buckets ⌝ }
-    ensures { λ _. ⌜ Rebuilt (now (s .entry)) (now (s .exit)) count buckets ⌝ }
+    requires { ⌜ (16 * count ≤ length (now s)) × TableFits (now s) count buckets ⌝ }
+    ensures { λ _. ⌜ RebuildEnsures (now (s .entry)) (now (s .exit)) count buckets ⌝ }
 {
     clear(s, buckets);
     let mut m = 0;
@@ -56,10 +58,11 @@ pub(crate) fn rebuild(s: &mut [u8], count: usize, buckets: usize)
     }
 }
 
-// More buckets, where the nodes have become more than the buckets and the store has room. The answer is the number of buckets.
+// More buckets, where the nodes have become more than the buckets and the store has room. The answer is the number of
+// buckets.
 pub(crate) fn grow(s: &mut [u8], count: usize, buckets: usize) -> usize
-    requires { ⌜ Indexed (now s) count buckets ⌝ }
-    ensures { λ r. ⌜ Rebuilt (now (s .entry)) (now (s .exit)) count r ⌝ }
+    requires { ⌜ TableSound (now s) count buckets ⌝ }
+    ensures { λ r. ⌜ RebuildEnsures (now (s .entry)) (now (s .exit)) count r ⌝ }
 {
     if count <= buckets {
         return buckets;

@@ -4,31 +4,32 @@ use crate::make::Slot;
 use crate::make::State;
 use crate::node;
 use crate::node::Edge;
+use crate::node::Index;
 use crate::normalise;
 ghost use Rattle.diagram.specs.Tally.{join as joins};
-ghost use Rattle.diagram.specs.Engine.{tensorOf, Sound, Does};
-ghost use Rattle.diagram.specs.Join.{Joinable};
+ghost use Rattle.diagram.specs.Engine.{tensorOf, Sound, Refines};
+ghost use Rattle.diagram.specs.Join.{JoinRequires};
 
 // An edge to the result, and the state then; or the nodes would be more than the store holds.
-pub enum Made {
+pub enum Outcome {
     Edge(Edge, State),
     Full,
 }
 
 // The tensor that is l at 0 and h at 1 of the index k.
-pub fn join(store: &mut [u8], s: State, k: usize, l: Edge, h: Edge) -> Made
-    requires { ⌜ Sound (now store) s × Joinable (now store) s k l h ⌝ }
-    ensures { λ r. ⌜ Does (now (store .entry)) (now (store .exit)) s
+pub fn join(store: &mut [u8], s: State, k: Index, l: Edge, h: Edge) -> Outcome
+    requires { ⌜ Sound (now store) s × JoinRequires (now store) s k l h ⌝ }
+    ensures { λ r. ⌜ Refines (now (store .entry)) (now (store .exit)) s
         (joins k (tensorOf (now (store .entry)) s l) (tensorOf (now (store .entry)) s h)) r ⌝ }
 {
     if node::same_edge(l, h) {
-        return Made::Edge(l, s);
+        return Outcome::Edge(l, s);
     }
     let x = normalise::normalise(k, l, h);
     let weight = x.weight;
     let node = x.node;
     let Slot::At(n, t) = make::make(store, s, node) else {
-        return Made::Full;
+        return Outcome::Full;
     };
-    Made::Edge(Edge { weight, node: n }, t)
+    Outcome::Edge(Edge { weight, node: n }, t)
 }

@@ -1,27 +1,29 @@
 // Making a node: it is found in the unique table, or it becomes one more node.
+use crate::cache::Epoch;
 use crate::insert;
 use crate::node;
 use crate::node::Node;
+use crate::node::NodeNumber;
 use crate::table;
-ghost use Rattle.diagram.specs.Node.{Narrow};
-ghost use Rattle.diagram.specs.Make.{Stored, Makes};
+ghost use Rattle.diagram.specs.Node.{NodeFits};
+ghost use Rattle.diagram.specs.Make.{StateSound, MakeEnsures};
 
 // What goes with the store: its nodes and buckets, and the epoch of the results that are remembered.
 pub struct State {
     pub count: usize,
-    pub epoch: u64,
+    pub epoch: Epoch,
     pub buckets: usize,
 }
 
 // The node's number, and the state then; or there is no room for it.
 pub enum Slot {
-    At(usize, State),
+    At(NodeNumber, State),
     Full,
 }
 
 pub(crate) fn make(s: &mut [u8], state: State, x: Node) -> Slot
-    requires { ⌜ Stored (now s) state × Narrow x ⌝ }
-    ensures { λ r. ⌜ Makes (now (s .entry)) (now (s .exit)) state x r ⌝ }
+    requires { ⌜ StateSound (now s) state × NodeFits x ⌝ }
+    ensures { λ r. ⌜ MakeEnsures (now (s .entry)) (now (s .exit)) state x r ⌝ }
 {
     let room = node::capacity(s);
     if room == 0 {

@@ -1,21 +1,22 @@
 // Marks what the marked nodes lead to. Field 5 of a node's record holds its mark.
 use crate::fields;
 use crate::node;
+use crate::node::NodeNumber;
 use crate::registers::Register;
 use crate::registers::Registers;
 ghost use mathlib.Core.Path.{_≡_};
 ghost use Prim.Native.Nat.{_*_, _≤_};
 ghost use lib.ListN.{length};
-ghost use Rattle.diagram.specs.Node.{Within, nodeAt};
-ghost use Rattle.diagram.specs.Compact.{Children};
-ghost use Rattle.diagram.specs.Mark.{Marks, Down, Looked, Spread};
-ghost use Rattle.diagram.specs.Registers.{edgesOf, Registered};
-ghost use Rattle.diagram.specs.Roots.{Unmarked, Root, FromRoots, Reaches};
+ghost use Rattle.diagram.specs.Node.{RecordWithin, nodeAt};
+ghost use Rattle.diagram.specs.Compact.{ChildrenWithin};
+ghost use Rattle.diagram.specs.Mark.{MarkEnsures, ChildrenBefore, LookEnsures, SpreadEnsures, NoneMarked};
+ghost use Rattle.diagram.specs.Mark.{RootEnsures, RootsEnsures, ReachEnsures};
+ghost use Rattle.diagram.specs.Registers.{edgesOf, RegistersValid};
 
 // Marks node c; 0 is no node.
-pub(crate) fn mark(s: &mut [u8], c: usize)
+pub(crate) fn mark(s: &mut [u8], c: NodeNumber)
     requires { ⌜ 16 * c ≤ length (now s) ⌝ }
-    ensures { λ _. ⌜ Marks (now (s .entry)) (now (s .exit)) c ⌝ }
+    ensures { λ _. ⌜ MarkEnsures (now (s .entry)) (now (s .exit)) c ⌝ }
 {
     if c == 0 {
         return;
@@ -24,9 +25,9 @@ pub(crate) fn mark(s: &mut [u8], c: usize)
 }
 
 // Marks the children of node n, if it is marked.
-fn look(s: &mut [u8], count: usize, n: usize)
-    requires { ⌜ Within (now s) n × ((n ≤ count) × Children (now s) n) ⌝ }
-    ensures { λ _. ⌜ Looked count (now (s .entry)) (now (s .exit)) n ⌝ }
+fn look(s: &mut [u8], count: usize, n: NodeNumber)
+    requires { ⌜ RecordWithin (now s) n × ((n ≤ count) × ChildrenWithin (now s) n) ⌝ }
+    ensures { λ _. ⌜ LookEnsures count (now (s .entry)) (now (s .exit)) n ⌝ }
 {
     if fields::get(s, 5, n - 1) == 0 {
         return;
@@ -40,8 +41,8 @@ fn look(s: &mut [u8], count: usize, n: usize)
 
 // Marks what the marked nodes of 1 .. count lead to.
 fn spread(s: &mut [u8], count: usize)
-    requires { ⌜ (16 * count ≤ length (now s)) × Down (nodeAt (now s)) count ⌝ }
-    ensures { λ _. ⌜ Spread (now (s .entry)) (now (s .exit)) count ⌝ }
+    requires { ⌜ (16 * count ≤ length (now s)) × ChildrenBefore (nodeAt (now s)) count ⌝ }
+    ensures { λ _. ⌜ SpreadEnsures (now (s .entry)) (now (s .exit)) count ⌝ }
 {
     let mut n = count;
     while 0 < n {
@@ -53,7 +54,7 @@ fn spread(s: &mut [u8], count: usize)
 // Takes the marks off nodes 1 .. count.
 fn unmark(s: &mut [u8], count: usize)
     requires { ⌜ 16 * count ≤ length (now s) ⌝ }
-    ensures { λ _. ⌜ Unmarked (now (s .entry)) (now (s .exit)) count ⌝ }
+    ensures { λ _. ⌜ NoneMarked (now (s .entry)) (now (s .exit)) count ⌝ }
 {
     let mut m = 0;
     while m < count {
@@ -65,7 +66,7 @@ fn unmark(s: &mut [u8], count: usize)
 // Marks the node of a filled register.
 fn root(s: &mut [u8], r: Register)
     requires { ⌜ (r .filled ≡ 1 → 16 * r .edge .node ≤ length (now s)) ⌝ }
-    ensures { λ _. ⌜ Root r (now (s .entry)) (now (s .exit)) ⌝ }
+    ensures { λ _. ⌜ RootEnsures r (now (s .entry)) (now (s .exit)) ⌝ }
 {
     if r.filled == 1 {
         mark(s, r.edge.node);
@@ -74,8 +75,8 @@ fn root(s: &mut [u8], r: Register)
 
 // Marks the nodes of the filled registers.
 fn roots(s: &mut [u8], count: usize, registers: Registers)
-    requires { ⌜ (16 * count ≤ length (now s)) × Registered count (registers .all) ⌝ }
-    ensures { λ _. ⌜ FromRoots count (registers .all) (now (s .entry)) (now (s .exit)) ⌝ }
+    requires { ⌜ (16 * count ≤ length (now s)) × RegistersValid count (registers .all) ⌝ }
+    ensures { λ _. ⌜ RootsEnsures count (registers .all) (now (s .entry)) (now (s .exit)) ⌝ }
 {
     let all = registers.all;
     let mut i = 0;
@@ -88,8 +89,9 @@ fn roots(s: &mut [u8], count: usize, registers: Registers)
 
 // Marks what the filled registers lead to, and nothing else.
 pub(crate) fn reach(s: &mut [u8], count: usize, registers: Registers)
-    requires { ⌜ (16 * count ≤ length (now s)) × (Down (nodeAt (now s)) count × Registered count (registers .all)) ⌝ }
-    ensures { λ _. ⌜ Reaches count (edgesOf (registers .all)) (now (s .entry)) (now (s .exit)) ⌝ }
+    requires { ⌜ (16 * count ≤ length (now s)) × (ChildrenBefore (nodeAt (now s)) count × RegistersValid count
+        (registers .all)) ⌝ }
+    ensures { λ _. ⌜ ReachEnsures count (edgesOf (registers .all)) (now (s .entry)) (now (s .exit)) ⌝ }
 {
     unmark(s, count);
     roots(s, count, registers);

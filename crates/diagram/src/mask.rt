@@ -1,11 +1,20 @@
 // A set of indices, as the bits of a number.
+use crate::node::Index;
+use crate::node::Weight;
 ghost use mathlib.Core.Path.{_≡_};
 ghost use Prim.Native.Nat.{_^_, _%_, _≤_, _<_};
-ghost use Rattle.field.specs.Code.{Stands};
+ghost use Rattle.field.specs.Field.{Represents};
 ghost use Rattle.diagram.specs.Tensor.{bits, members, power2};
-ghost use Rattle.diagram.specs.Mask.{Without, Rest};
+ghost use Rattle.diagram.specs.Mask.{MaskWithout, MaskFrom};
 
-fn bit(k: usize) -> u64
+// A set of indices: its bits are the members.
+pub type Mask = u64;
+
+// A value for each index: bit k is the value of index k.
+pub type Assignment = u64;
+
+// The number of the set that has k alone.
+fn power(k: Index) -> Mask
     requires { ⌜ k < 64 ⌝ }
     ensures { λ r. ⌜ r ≡ 2 ^ k ⌝ }
 {
@@ -13,7 +22,7 @@ fn bit(k: usize) -> u64
 }
 
 // Is k a member of m?
-pub(crate) fn has(m: u64, k: usize) -> bool
+pub(crate) fn has(m: Mask, k: Index) -> bool
     requires { ⌜ k < 64 ⌝ }
     ensures { λ r. ⌜ r ≡ bits m k ⌝ }
 {
@@ -21,23 +30,23 @@ pub(crate) fn has(m: u64, k: usize) -> bool
 }
 
 // m without k.
-pub(crate) fn without(m: u64, k: usize) -> u64
+pub(crate) fn without(m: Mask, k: Index) -> Mask
     requires { ⌜ k < 64 ⌝ }
-    ensures { λ r. ⌜ Without m k r ⌝ }
+    ensures { λ r. ⌜ MaskWithout m k r ⌝ }
 {
     if has(m, k) {
-        let b = bit(k);
+        let b = power(k);
         return m - b;
     }
     m
 }
 
 // 2 to the power n.
-fn doubled(n: u32) -> u64
-    ensures { λ r. ⌜ Stands r (power2 n) ⌝ }
+fn doubled(n: u32) -> Weight
+    ensures { λ r. ⌜ Represents r (power2 n) ⌝ }
 {
     let mut i: u32 = 0;
-    let mut r: u64 = 1;
+    let mut r: Weight = 1;
     while i < n {
         r = field::add(r, r);
         i += 1;
@@ -46,18 +55,18 @@ fn doubled(n: u32) -> u64
 }
 
 // The members of m below k.
-fn below(m: u64, k: usize) -> u64
+fn below(m: Mask, k: Index) -> Mask
     requires { ⌜ k < 64 ⌝ }
     ensures { λ r. ⌜ (r ≡ m % 2 ^ k) × (r ≤ m) ⌝ }
 {
-    let b = bit(k);
+    let b = power(k);
     m % b
 }
 
 // 2 to the count of members below k, of which there are mostly none.
-pub(crate) fn factor(m: u64, k: usize) -> u64
+pub(crate) fn factor(m: Mask, k: Index) -> Weight
     requires { ⌜ k < 64 ⌝ }
-    ensures { λ r. ⌜ Stands r (power2 (members k (bits m))) ⌝ }
+    ensures { λ r. ⌜ Represents r (power2 (members k (bits m))) ⌝ }
 {
     let b = below(m, k);
     if b == 0 {
@@ -67,9 +76,9 @@ pub(crate) fn factor(m: u64, k: usize) -> u64
 }
 
 // The members of m from k on.
-pub(crate) fn from(m: u64, k: usize) -> u64
+pub(crate) fn from(m: Mask, k: Index) -> Mask
     requires { ⌜ k < 64 ⌝ }
-    ensures { λ r. ⌜ Rest m k r ⌝ }
+    ensures { λ r. ⌜ MaskFrom m k r ⌝ }
 {
     let b = below(m, k);
     m - b

@@ -1,23 +1,33 @@
 // A node, and its record in the store.
 use crate::fields;
 ghost use mathlib.Core.Path.{_≡_};
-ghost use Rattle.diagram.specs.Told.{Told};
-ghost use Rattle.diagram.specs.Node.{capacity as capacityOf, Within, Narrow, nodeAt, putNode};
+ghost use Rattle.diagram.specs.Node.{capacity as capacityOf, RecordWithin, NodeFits, nodeAt, putNode, Decides};
 
-// A weight times a node's tensor; node 0 is the constant 1.
+// Below the field's modulus.
+pub type Weight = u64;
+
+// Nodes are numbered from 1; node 0 is the constant 1.
+pub type NodeNumber = usize;
+
+pub type Index = usize;
+
+// How many indices there are; in the place of an index it says that there is none.
+pub(crate) const INDICES: Index = 24;
+
+// A weight times a node's tensor.
 pub struct Edge {
-    pub weight: u64,
-    pub node: usize,
+    pub weight: Weight,
+    pub node: NodeNumber,
 }
 
 pub struct Node {
-    pub index: usize,
+    pub index: Index,
     pub low: Edge,
     pub high: Edge,
 }
 
 pub(crate) fn same_edge(a: Edge, b: Edge) -> bool
-    ensures { λ r. ⌜ Told (a ≡ b) r ⌝ }
+    ensures { λ r. ⌜ Decides (a ≡ b) r ⌝ }
 {
     if a.weight != b.weight {
         return false;
@@ -29,7 +39,7 @@ pub(crate) fn same_edge(a: Edge, b: Edge) -> bool
 }
 
 pub(crate) fn same(x: Node, y: Node) -> bool
-    ensures { λ r. ⌜ Told (x ≡ y) r ⌝ }
+    ensures { λ r. ⌜ Decides (x ≡ y) r ⌝ }
 {
     if x.index != y.index {
         return false;
@@ -49,9 +59,9 @@ pub(crate) fn capacity(s: &[u8]) -> usize
 }
 
 // Node n.
-pub(crate) fn read(s: &[u8], n: usize) -> Node
-    requires { ⌜ Within (now s) n ⌝ }
-    ensures { λ r. ⌜ (r ≡ nodeAt (now (s .entry)) n) × Narrow r ⌝ }
+pub(crate) fn read(s: &[u8], n: NodeNumber) -> Node
+    requires { ⌜ RecordWithin (now s) n ⌝ }
+    ensures { λ r. ⌜ (r ≡ nodeAt (now (s .entry)) n) × NodeFits r ⌝ }
 {
     let i = n - 1;
     let a = fields::get(s, 0, i);
@@ -73,8 +83,8 @@ pub(crate) fn read(s: &[u8], n: usize) -> Node
 }
 
 // Writes node n.
-pub(crate) fn write(s: &mut [u8], n: usize, x: Node)
-    requires { ⌜ Within (now s) n × Narrow x ⌝ }
+pub(crate) fn write(s: &mut [u8], n: NodeNumber, x: Node)
+    requires { ⌜ RecordWithin (now s) n × NodeFits x ⌝ }
     ensures { λ _. ⌜ now (s .exit) ≡ putNode (now (s .entry)) n x ⌝ }
 {
     let i = n - 1;

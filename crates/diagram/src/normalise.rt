@@ -1,18 +1,20 @@
 // The normal form of a node.
 use crate::node::Edge;
+use crate::node::Index;
 use crate::node::Node;
-ghost use Rattle.diagram.specs.Normalise.{Normalisable, Normalised};
+use crate::node::Weight;
+ghost use Rattle.diagram.specs.Normalise.{NormaliseRequires, NormaliseEnsures};
 
 // A weight, times a node whose first weight that is not 0 is 1.
-pub(crate) struct Normal {
-    pub(crate) weight: u64,
+pub(crate) struct WeightedNode {
+    pub(crate) weight: Weight,
     pub(crate) node: Node,
 }
 
 // What is l at 0 and h at 1 of the index k: divided by the low weight, or by the high weight where the low one is 0.
-pub(crate) fn normalise(k: usize, l: Edge, h: Edge) -> Normal
-    requires { ⌜ Normalisable k l h ⌝ }
-    ensures { λ r. ⌜ Normalised k l h (r .weight) (r .node) ⌝ }
+pub(crate) fn normalise(k: Index, l: Edge, h: Edge) -> WeightedNode
+    requires { ⌜ NormaliseRequires k l h ⌝ }
+    ensures { λ r. ⌜ NormaliseEnsures k l h (r .weight) (r .node) ⌝ }
 {
     let v = l.weight;
     let w = h.weight;
@@ -26,7 +28,7 @@ pub(crate) fn normalise(k: usize, l: Edge, h: Edge) -> Normal
             low,
             high,
         };
-        return Normal { weight: w, node };
+        return WeightedNode { weight: w, node };
     }
     let i = field::inverse(v);
     let r = field::mul(i, w);
@@ -37,5 +39,5 @@ pub(crate) fn normalise(k: usize, l: Edge, h: Edge) -> Normal
         low,
         high,
     };
-    Normal { weight: v, node }
+    WeightedNode { weight: v, node }
 }

@@ -3,7 +3,10 @@ use crate::node::Edge;
 ghost use mathlib.Core.Path.{_≡_};
 ghost use Prim.Native.Nat.{_<_};
 ghost use lib.ListN.{set};
-ghost use Rattle.diagram.specs.Registers.{emptyRegister, emptied, filledWith, Reads};
+ghost use Rattle.diagram.specs.Registers.{emptyRegister, emptyRegisters, filledWith, GetEnsures};
+
+// One of the registers 0 to 15.
+pub type RegisterNumber = usize;
 
 // `filled` is 1 or 0. It is a word, since registers are copied often, and a byte among words is slow to copy.
 pub struct Register {
@@ -17,7 +20,7 @@ pub struct Registers {
 
 // All empty.
 pub fn empty() -> Registers
-    ensures { λ r. ⌜ r .all ≡ emptied ⌝ }
+    ensures { λ r. ⌜ r .all ≡ emptyRegisters ⌝ }
 {
     let edge = Edge { weight: 0, node: 0 };
     let none = Register { filled: 0, edge };
@@ -30,9 +33,9 @@ pub enum Held {
     Empty,
 }
 
-pub fn get(registers: Registers, i: usize) -> Held
+pub fn get(registers: Registers, i: RegisterNumber) -> Held
     requires { ⌜ i < 16 ⌝ }
-    ensures { λ r. ⌜ Reads (registers .all) i r ⌝ }
+    ensures { λ r. ⌜ GetEnsures (registers .all) i r ⌝ }
 {
     let r = registers.all[i];
     if r.filled == 1 {
@@ -43,7 +46,7 @@ pub fn get(registers: Registers, i: usize) -> Held
 }
 
 // Register i set to an edge.
-pub fn put(registers: Registers, i: usize, edge: Edge) -> Registers
+pub fn put(registers: Registers, i: RegisterNumber, edge: Edge) -> Registers
     requires { ⌜ i < 16 ⌝ }
     ensures { λ r. ⌜ r .all ≡ set (registers .all) i (filledWith edge) ⌝ }
 {
@@ -54,7 +57,7 @@ pub fn put(registers: Registers, i: usize, edge: Edge) -> Registers
 }
 
 // Register i emptied.
-pub fn clear(registers: Registers, i: usize) -> Registers
+pub fn clear(registers: Registers, i: RegisterNumber) -> Registers
     requires { ⌜ i < 16 ⌝ }
     ensures { λ r. ⌜ r .all ≡ set (registers .all) i emptyRegister ⌝ }
 {

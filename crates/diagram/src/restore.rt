@@ -2,11 +2,11 @@
 use crate::cache;
 use crate::insert;
 use crate::make::State;
-ghost use Rattle.diagram.specs.Restore.{Fresh, Left, Restored};
+ghost use Rattle.diagram.specs.Restore.{StartEnsures, RollbackRequires, RollbackEnsures};
 
 // No nodes, whatever the store and the cache hold.
 pub fn start(store: &mut [u8], cache: &mut [u64]) -> State
-    ensures { λ r. ⌜ Fresh (now (cache .exit)) (now (store .entry)) (now (store .exit)) r ⌝ }
+    ensures { λ r. ⌜ StartEnsures (now (cache .exit)) (now (store .entry)) (now (store .exit)) r ⌝ }
 {
     cache::clear(cache);
     if 16 <= store.len() {
@@ -21,8 +21,8 @@ pub fn start(store: &mut [u8], cache: &mut [u64]) -> State
 
 // The nodes of s again, where a refused call has left more.
 pub fn rollback(store: &mut [u8], cache: &mut [u64], s: State) -> State
-    requires { ⌜ Left (now cache) (now store) s ⌝ }
-    ensures { λ r. ⌜ Restored (now (cache .exit)) (now (store .entry)) (now (store .exit)) s r ⌝ }
+    requires { ⌜ RollbackRequires (now cache) (now store) s ⌝ }
+    ensures { λ r. ⌜ RollbackEnsures (now (cache .exit)) (now (store .entry)) (now (store .exit)) s r ⌝ }
 {
     let count = s.count;
     let buckets = s.buckets;

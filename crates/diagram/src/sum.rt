@@ -5,34 +5,34 @@ use crate::cache::Key;
 use crate::cache::Op;
 use crate::edge;
 use crate::join;
-use crate::join::Made;
+use crate::join::Outcome;
 use crate::make::State;
 use crate::node::Edge;
+use crate::node::Index;
 use crate::operation;
 ghost use Rattle.diagram.specs.Tally.{sum as sums, join as joins};
 ghost use Rattle.diagram.specs.Engine.{tensorOf};
-ghost use Rattle.diagram.specs.Operation.{Ready, Works};
-ghost use Rattle.diagram.specs.Halving.{Halfway, high};
-ghost use Rattle.diagram.specs.Adding.{Apart};
+ghost use Rattle.diagram.specs.Operation.{OperationRequires, RefinesCached, HighRequires, highStep};
+ghost use Rattle.diagram.specs.Sum.{SumReduced};
 
-pub fn sum(store: &mut [u8], cache: &mut [u64], s: State, a: Edge, b: Edge) -> Made
-    requires { ⌜ Ready (now cache) (now store) s a b ⌝ }
-    ensures { λ r. ⌜ Works (now (cache .exit)) (now (store .entry)) (now (store .exit)) s
+pub fn sum(store: &mut [u8], cache: &mut [u64], s: State, a: Edge, b: Edge) -> Outcome
+    requires { ⌜ OperationRequires (now cache) (now store) s a b ⌝ }
+    ensures { λ r. ⌜ RefinesCached (now (cache .exit)) (now (store .entry)) (now (store .exit)) s
         (sums (tensorOf (now (store .entry)) s a) (tensorOf (now (store .entry)) s b)) r ⌝ }
 {
     let v = a.weight;
     let w = b.weight;
     if v == 0 {
-        return Made::Edge(b, s);
+        return Outcome::Edge(b, s);
     }
     if w == 0 {
-        return Made::Edge(a, s);
+        return Outcome::Edge(a, s);
     }
     let m = a.node;
     let n = b.node;
     if m == n {
         let e = edge::added(a, b);
-        return Made::Edge(e, s);
+        return Outcome::Edge(e, s);
     }
     // a's weight is taken out: multiples of one sum share an entry
     let i = field::inverse(v);
@@ -44,9 +44,9 @@ pub fn sum(store: &mut [u8], cache: &mut [u64], s: State, a: Edge, b: Edge) -> M
 }
 
 // The sum of edges to different nodes, the first of weight 1: remembered, or worked out and remembered.
-fn sum_cached(store: &mut [u8], cache: &mut [u64], s: State, a: Edge, b: Edge) -> Made
-    requires { ⌜ Ready (now cache) (now store) s a b × Apart a b ⌝ }
-    ensures { λ r. ⌜ Works (now (cache .exit)) (now (store .entry)) (now (store .exit)) s
+fn sum_cached(store: &mut [u8], cache: &mut [u64], s: State, a: Edge, b: Edge) -> Outcome
+    requires { ⌜ OperationRequires (now cache) (now store) s a b × SumReduced a b ⌝ }
+    ensures { λ r. ⌜ RefinesCached (now (cache .exit)) (now (store .entry)) (now (store .exit)) s
         (sums (tensorOf (now (store .entry)) s a) (tensorOf (now (store .entry)) s b)) r ⌝ }
 {
     let epoch = s.epoch;
@@ -61,7 +61,7 @@ fn sum_cached(store: &mut [u8], cache: &mut [u64], s: State, a: Edge, b: Edge) -
         arg,
     };
     if let Found::Hit(e) = cache::lookup(cache, epoch, key) {
-        return Made::Edge(e, s);
+        return Outcome::Edge(e, s);
     }
     let made = sum_split(store, cache, s, a, b);
     operation::keep(cache, epoch, key, made);
@@ -69,16 +69,16 @@ fn sum_cached(store: &mut [u8], cache: &mut [u64], s: State, a: Edge, b: Edge) -
 }
 
 // "join(k, sum(A0,B0), sum(A1,B1))": the low parts, and then the rest.
-fn sum_split(store: &mut [u8], cache: &mut [u64], s: State, a: Edge, b: Edge) -> Made
-    requires { ⌜ Ready (now cache) (now store) s a b × Apart a b ⌝ }
-    ensures { λ r. ⌜ Works (now (cache .exit)) (now (store .entry)) (now (store .exit)) s
+fn sum_split(store: &mut [u8], cache: &mut [u64], s: State, a: Edge, b: Edge) -> Outcome
+    requires { ⌜ OperationRequires (now cache) (now store) s a b × SumReduced a b ⌝ }
+    ensures { λ r. ⌜ RefinesCached (now (cache .exit)) (now (store .entry)) (now (store .exit)) s
         (sums (tensorOf (now (store .entry)) s a) (tensorOf (now (store .entry)) s b)) r ⌝ }
 {
     let k = operation::lowest(store, s, a, b);
     let a0 = edge::cofactor(store, s, a, k, false);
     let b0 = edge::cofactor(store, s, b, k, false);
-    let Made::Edge(l, t) = sum(store, cache, s, a0, b0) else {
-        return Made::Full;
+    let Outcome::Edge(l, t) = sum(store, cache, s, a0, b0) else {
+        return Outcome::Full;
     };
     sum_high(store, cache, t, a, b, k, l)
 }
@@ -90,17 +90,18 @@ fn sum_high(
     s: State,
     a: Edge,
     b: Edge,
-    k: usize,
+    k: Index,
     l: Edge,
-) -> Made
-    requires { ⌜ Halfway (now cache) (now store) s a b k l ⌝ }
-    ensures { λ r. ⌜ Works (now (cache .exit)) (now (store .entry)) (now (store .exit)) s
-        (high sums (joins k) k (tensorOf (now (store .entry)) s a) (tensorOf (now (store .entry)) s b) (tensorOf (now (store .entry)) s l)) r ⌝ }
+) -> Outcome
+    requires { ⌜ HighRequires (now cache) (now store) s a b k l ⌝ }
+    ensures { λ r. ⌜ RefinesCached (now (cache .exit)) (now (store .entry)) (now (store .exit)) s
+        (highStep sums (joins k) k (tensorOf (now (store .entry)) s a) (tensorOf (now (store .entry)) s b)
+        (tensorOf (now (store .entry)) s l)) r ⌝ }
 {
     let a1 = edge::cofactor(store, s, a, k, true);
     let b1 = edge::cofactor(store, s, b, k, true);
-    let Made::Edge(h, t) = sum(store, cache, s, a1, b1) else {
-        return Made::Full;
+    let Outcome::Edge(h, t) = sum(store, cache, s, a1, b1) else {
+        return Outcome::Full;
     };
     join::join(store, t, k, l, h)
 }

@@ -2,15 +2,16 @@
 use crate::fields;
 use crate::node;
 use crate::node::Node;
+use crate::node::NodeNumber;
 ghost use mathlib.Core.Path.{_≡_};
 ghost use Prim.Native.Nat.{_≤_, _<_};
-ghost use Rattle.diagram.specs.Node.{Narrow, nodeAt};
-ghost use Rattle.diagram.specs.Table.{hash as hashed, Indexed, Found};
+ghost use Rattle.diagram.specs.Node.{NodeFits, nodeAt};
+ghost use Rattle.diagram.specs.Table.{hash as hashed, TableSound, FindEnsures};
 
-// The bucket of a node. Nodes that are made one after the other lead to nodes with close numbers: small factors of these keep
-// their buckets close in the store. The buckets are a power of 2, so that every one is reached.
+// The bucket of a node. Nodes that are made one after the other lead to nodes with close numbers: small factors of
+// these keep their buckets close in the store. The buckets are a power of 2, so that every one is reached.
 pub(crate) fn hash(buckets: usize, x: Node) -> usize
-    requires { ⌜ (1 ≤ buckets) × Narrow x ⌝ }
+    requires { ⌜ (1 ≤ buckets) × NodeFits x ⌝ }
     ensures { λ r. ⌜ (r ≡ hashed buckets x) × (r < buckets) ⌝ }
 {
     let m = x.index * 40503
@@ -22,9 +23,9 @@ pub(crate) fn hash(buckets: usize, x: Node) -> usize
 }
 
 // The number of the node x, or 0 where there is none.
-pub(crate) fn find(s: &[u8], count: usize, buckets: usize, x: Node) -> usize
-    requires { ⌜ Indexed (now s) count buckets × Narrow x ⌝ }
-    ensures { λ r. ⌜ Found (nodeAt (now (s .entry))) count x r ⌝ }
+pub(crate) fn find(s: &[u8], count: usize, buckets: usize, x: Node) -> NodeNumber
+    requires { ⌜ TableSound (now s) count buckets × NodeFits x ⌝ }
+    ensures { λ r. ⌜ FindEnsures (nodeAt (now (s .entry))) count x r ⌝ }
 {
     let b = hash(buckets, x);
     let mut r = fields::get(s, 4, b);

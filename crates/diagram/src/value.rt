@@ -2,16 +2,18 @@
 use crate::edge;
 use crate::make::State;
 use crate::mask;
+use crate::mask::Assignment;
 use crate::node::Edge;
-ghost use Rattle.field.specs.Code.{Stands};
+use crate::node::Weight;
+ghost use Rattle.field.specs.Field.{Represents};
 ghost use Rattle.diagram.specs.Tensor.{value as valued};
 ghost use Rattle.diagram.specs.Meaning.{Valid};
 ghost use Rattle.diagram.specs.Engine.{Sound, tensorOf};
 
 // The weight at the assignment whose bit k is the value of index k, by walking down.
-pub fn value(store: &[u8], s: State, a: Edge, v: u64) -> u64
+pub fn value(store: &[u8], s: State, a: Edge, v: Assignment) -> Weight
     requires { ⌜ Sound (now store) s × Valid (s .count) a ⌝ }
-    ensures { λ r. ⌜ Stands r (valued (tensorOf (now (store .entry)) s a) v) ⌝ }
+    ensures { λ r. ⌜ Represents r (valued (tensorOf (now (store .entry)) s a) v) ⌝ }
 {
     let mut n = a.node;
     let mut w = a.weight;

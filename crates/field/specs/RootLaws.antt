@@ -4,7 +4,7 @@ use mathlib.Core.Logic.{_≢_}
 use Prim.Native.Nat.{ℕ, zero, suc, _≤_, _<_}
 use native.Mathlib.Omega.{arith}
 use Rattle.field.specs.Weight.{Weight, toWeight, 1W, timesW, negateW, eighthRoot, imaginaryUnit}
-use Rattle.field.specs.Ring.{weight-path}
+use Rattle.field.specs.RingLaws.{weight-path}
 use Rattle.field.specs.Root.{powerW, PrimitiveEighthRoot}
 
 pub eighth-root : timesW eighthRoot eighthRoot ≡ imaginaryUnit

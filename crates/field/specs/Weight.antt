@@ -6,7 +6,7 @@ use native.Mathlib.Bridge.{le-by-compare, IsLe}
 use native.Mathlib.Nat.{mod-lt}
 use lib.Dec.{eqb}
 
--- "the prime 65537" (that it is prime: Prime.antt)
+-- "the prime 65537" (that it is prime: PrimeLaws)
 abbrev pub modulus : ℕ
 modulus = 65537
 
@@ -53,8 +53,8 @@ unfoldable pub onesPower : ℕ → Weight → Weight
 onesPower zero w = 1W
 onesPower (suc n) w = timesW w (onesPower n (timesW w w))
 
--- "A nonzero weight has one inverse": the power 65535. That it is an inverse, and the only one: Inverse.antt.
--- The inverse of 0 is 0 and stands for nothing.
+-- "A nonzero weight has one inverse": the power 65535. That it is an inverse, and the only one: InverseLaws.
+-- For 0, which has no inverse, it is 0.
 unfoldable pub inverseW : Weight → Weight
 inverseW w = onesPower 16 w
 

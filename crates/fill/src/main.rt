@@ -1,22 +1,25 @@
-// Fills a store with nodes by a pattern of joins, finds them all again, and prints the number of nodes after each pass.
+// Fills a store with nodes by a pattern of joins, makes the same joins again, which find every node, and prints the
+// number of nodes after each pass.
 use diagram::join;
-use diagram::join::Made;
+use diagram::join::Outcome;
 use diagram::make::State;
 use diagram::node::Edge;
 use diagram::restore;
 ghost use Prim.Native.Nat.{_+_, _<_};
+ghost use Rattle.diagram.specs.Weights.{modulus};
 ghost use Rattle.diagram.specs.Engine.{Sound};
-ghost use Rattle.fill.specs.Fill.{Leaf, Pairs, Standing};
+ghost use Rattle.fill.specs.Fill.{LeafEnsures, PairEnsures, FillInvariant};
 
 // The store has room for one node less than the pattern has.
 const BYTES: usize = 1048560;
 
+// The pattern has a pair for each two of so many weights.
 const SIDE: u64 = 256;
 
 // The node at index 23 with the values 1 and w.
-fn leaf(store: &mut [u8], s: State, w: u64) -> Made
-    requires { ⌜ Sound (now store) s × (w < 65537) ⌝ }
-    ensures { λ r. ⌜ Leaf (now (store .entry)) (now (store .exit)) s w r ⌝ }
+fn leaf(store: &mut [u8], s: State, w: u64) -> Outcome
+    requires { ⌜ Sound (now store) s × (w < modulus) ⌝ }
+    ensures { λ r. ⌜ LeafEnsures (now (store .entry)) (now (store .exit)) s w r ⌝ }
 {
     let one = Edge { weight: 1, node: 0 };
     let other = Edge { weight: w, node: 0 };
@@ -24,23 +27,23 @@ fn leaf(store: &mut [u8], s: State, w: u64) -> Made
 }
 
 // The node at index 22 over two of those.
-fn pair(store: &mut [u8], s: State, a: u64, b: u64) -> Made
-    requires { ⌜ Sound (now store) s × ((a < 65537) × (b < 65537)) ⌝ }
-    ensures { λ r. ⌜ Pairs (now (store .entry)) (now (store .exit)) s r ⌝ }
+fn pair(store: &mut [u8], s: State, a: u64, b: u64) -> Outcome
+    requires { ⌜ Sound (now store) s × ((a < modulus) × (b < modulus)) ⌝ }
+    ensures { λ r. ⌜ PairEnsures (now (store .entry)) (now (store .exit)) s r ⌝ }
 {
-    let Made::Edge(l, t) = leaf(store, s, a) else {
-        return Made::Full;
+    let Outcome::Edge(l, t) = leaf(store, s, a) else {
+        return Outcome::Full;
     };
-    let Made::Edge(h, u) = leaf(store, t, b) else {
-        return Made::Full;
+    let Outcome::Edge(h, u) = leaf(store, t, b) else {
+        return Outcome::Full;
     };
     join::join(store, u, 22, l, h)
 }
 
 // The pairs of a.
 fn row(store: &mut [u8], cache: &mut [u64], s: State, a: u64) -> State
-    requires { ⌜ Standing (now cache) (now store) s × (a < 65537) ⌝ }
-    ensures { λ r. ⌜ Standing (now (cache .exit)) (now (store .exit)) r ⌝ }
+    requires { ⌜ FillInvariant (now cache) (now store) s × (a < modulus) ⌝ }
+    ensures { λ r. ⌜ FillInvariant (now (cache .exit)) (now (store .exit)) r ⌝ }
 {
     let mut t = s;
     let mut b = 0;
@@ -53,18 +56,18 @@ fn row(store: &mut [u8], cache: &mut [u64], s: State, a: u64) -> State
 
 // A pair, or the nodes as they were where it does not fit.
 fn one(store: &mut [u8], cache: &mut [u64], s: State, a: u64, b: u64) -> State
-    requires { ⌜ Standing (now cache) (now store) s × ((a < 65537) × (b < 65537)) ⌝ }
-    ensures { λ r. ⌜ Standing (now (cache .exit)) (now (store .exit)) r ⌝ }
+    requires { ⌜ FillInvariant (now cache) (now store) s × ((a < modulus) × (b < modulus)) ⌝ }
+    ensures { λ r. ⌜ FillInvariant (now (cache .exit)) (now (store .exit)) r ⌝ }
 {
-    let Made::Edge(_, t) = pair(store, s, a, b) else {
+    let Outcome::Edge(_, t) = pair(store, s, a, b) else {
         return restore::rollback(store, cache, s);
     };
     t
 }
 
 fn pass(store: &mut [u8], cache: &mut [u64], s: State) -> State
-    requires { ⌜ Standing (now cache) (now store) s ⌝ }
-    ensures { λ r. ⌜ Standing (now (cache .exit)) (now (store .exit)) r ⌝ }
+    requires { ⌜ FillInvariant (now cache) (now store) s ⌝ }
+    ensures { λ r. ⌜ FillInvariant (now (cache .exit)) (now (store .exit)) r ⌝ }
 {
     let mut t = s;
     let mut a = 0;

@@ -4,46 +4,46 @@ use text::squeeze;
 use text::squeeze::Squeeze;
 ghost use Prim.Native.Nat.{_≤_};
 ghost use lib.ListN.{length};
-ghost use Rattle.text.specs.Squeeze.{Fits};
+ghost use Rattle.text.specs.Squeeze.{SqueezeFits};
 
-fn end(line: &[u8], held: Squeeze)
-    requires { ⌜ (64 ≤ length (now line)) × Fits held ⌝ }
+fn end(line: &[u8], squeeze: Squeeze)
+    requires { ⌜ (64 ≤ length (now line)) × SqueezeFits squeeze ⌝ }
 {
     let a = 0;
-    let e = held.length;
+    let e = squeeze.length;
     show::line(&line[a..e]);
 }
 
-fn step(line: &mut [u8], held: Squeeze, b: u8) -> Squeeze
-    requires { ⌜ (64 ≤ length (now line)) × Fits held ⌝ }
-    ensures { λ r. ⌜ Fits r ⌝ }
+fn step(line: &mut [u8], squeeze: Squeeze, b: u8) -> Squeeze
+    requires { ⌜ (64 ≤ length (now line)) × SqueezeFits squeeze ⌝ }
+    ensures { λ r. ⌜ SqueezeFits r ⌝ }
 {
     if b == b'\n' {
-        end(line, held);
+        end(line, squeeze);
         return squeeze::none();
     }
-    squeeze::push(line, held, b)
+    squeeze::push(line, squeeze, b)
 }
 
 // The bytes that come next.
-pub fn feed(line: &mut [u8], held: Squeeze, part: &[u8]) -> Squeeze
-    requires { ⌜ (64 ≤ length (now line)) × Fits held ⌝ }
-    ensures { λ r. ⌜ Fits r ⌝ }
+pub fn feed(line: &mut [u8], squeeze: Squeeze, part: &[u8]) -> Squeeze
+    requires { ⌜ (64 ≤ length (now line)) × SqueezeFits squeeze ⌝ }
+    ensures { λ r. ⌜ SqueezeFits r ⌝ }
 {
-    let mut h = held;
+    let mut next = squeeze;
     let mut i = 0;
     while i < part.len() {
-        h = step(line, h, part[i]);
+        next = step(line, next, part[i]);
         i += 1;
     }
-    h
+    next
 }
 
 // "a last part without LF counts unless empty"; of a line that has a byte, one is kept.
-pub fn last(line: &[u8], held: Squeeze)
-    requires { ⌜ (64 ≤ length (now line)) × Fits held ⌝ }
+pub fn last(line: &[u8], squeeze: Squeeze)
+    requires { ⌜ (64 ≤ length (now line)) × SqueezeFits squeeze ⌝ }
 {
-    if 0 < held.length {
-        end(line, held);
+    if 0 < squeeze.length {
+        end(line, squeeze);
     }
 }

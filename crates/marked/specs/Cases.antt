@@ -6,7 +6,7 @@ use Prim.Native.String.{String}
 use Rattle.field.specs.Weight.{Weight, toWeight, timesW, eighthRoot, imaginaryUnit, rootTwo, inverseRootTwo}
 use Rattle.text.specs.Text.{bytes}
 use Rattle.text.specs.Session.{most, session}
-use Rattle.text.specs.VerdictRun.{outcome}
+use Rattle.text.specs.VerdictSession.{verdictResult}
 
 -- a named weight and its number; a product of two weights, by their numbers; a session over a store of some capacity,
 -- or a verdict: what is fed, and what is printed
@@ -21,7 +21,7 @@ abbrev pub Says : ℕ → Case → Type 0
 Says d (constant-is w n) = w .number ≡ n
 Says d (product-is a b c) = timesW (toWeight a) (toWeight b) .number ≡ c
 Says d (session-prints capacity text out) = session d (most capacity) 4096 (bytes text) .output ≡ bytes out
-Says d (verdict-prints capacity text out) = outcome d (most capacity) 32 (bytes text) ≡ (0, bytes out)
+Says d (verdict-prints capacity text out) = verdictResult d (most capacity) 32 (bytes text) ≡ (0, bytes out)
 
 abbrev pub AllSay : ℕ → List Case → Type 0
 AllSay d [] = Unit {0}

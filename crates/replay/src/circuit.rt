@@ -1,5 +1,6 @@
-// An 8-qubit circuit, gate after gate as document 01's verdicts run them: the gate is contracted with what register 0 holds over the
-// middles of its qubits, their fresh indices become the middles, and a collection follows. The count of the nodes is printed each time.
+// An 8-qubit circuit, gate after gate as document 01's verdicts run them: the gate is contracted with what register 0
+// holds over the middles of its qubits, their fresh indices become the middles, and a collection follows. The count of
+// the nodes is printed each time.
 use crate::calls;
 use crate::calls::Run;
 use crate::show;
@@ -7,13 +8,14 @@ use diagram::gate::Gate;
 use diagram::registers;
 use diagram::restore;
 ghost use Prim.Native.Nat.{_<_};
-ghost use Rattle.diagram.specs.Entry.{Allowed};
-ghost use Rattle.diagram.specs.Standing.{Standing};
+ghost use Rattle.diagram.specs.Tensor.{masks};
+ghost use Rattle.diagram.specs.Entry.{QubitsInRange};
+ghost use Rattle.diagram.specs.Invariant.{Invariant};
 
 // The gate, contracted over the indices of m; register 1 has held it.
 fn contracted(store: &mut [u8], cache: &mut [u64], run: Run, g: Gate, m: u64) -> Run
-    requires { ⌜ Standing (now cache) (now store) (run .state) (run .registers .all) × (Allowed g × (m < 16777216)) ⌝ }
-    ensures { λ r. ⌜ Standing (now (cache .exit)) (now (store .exit)) (r .state) (r .registers .all) ⌝ }
+    requires { ⌜ Invariant (now cache) (now store) (run .state) (run .registers .all) × (QubitsInRange g × (m < masks)) ⌝ }
+    ensures { λ r. ⌜ Invariant (now (cache .exit)) (now (store .exit)) (r .state) (r .registers .all) ⌝ }
 {
     let one = calls::gate(store, cache, run, 1, g);
     let two = calls::cont(store, cache, one, 0, m);
@@ -24,11 +26,12 @@ fn contracted(store: &mut [u8], cache: &mut [u64], run: Run, g: Gate, m: u64) ->
 
 // A gate on one qubit, whose middle is the index j.
 fn single(store: &mut [u8], cache: &mut [u64], run: Run, g: Gate, j: usize, m: u64) -> Run
-    requires { ⌜ Standing (now cache) (now store) (run .state) (run .registers .all) × (Allowed g × ((j < 23) × (m < 16777216))) ⌝ }
-    ensures { λ r. ⌜ Standing (now (cache .exit)) (now (store .exit)) (r .state) (r .registers .all) ⌝ }
+    requires { ⌜ Invariant (now cache) (now store) (run .state) (run .registers .all)
+        × (QubitsInRange g × ((j < 23) × (m < masks))) ⌝ }
+    ensures { λ r. ⌜ Invariant (now (cache .exit)) (now (store .exit)) (r .state) (r .registers .all) ⌝ }
 {
     let one = contracted(store, cache, run, g, m);
-    let two = calls::low(store, cache, one, j);
+    let two = calls::low(store, cache, one, j + 1);
     let last = calls::tidy(store, cache, two, true);
     show::count(last);
     last
@@ -36,10 +39,10 @@ fn single(store: &mut [u8], cache: &mut [u64], run: Run, g: Gate, j: usize, m: u
 
 // The second fresh index of a gate on two qubits becomes its middle k.
 fn second(store: &mut [u8], cache: &mut [u64], run: Run, k: usize) -> Run
-    requires { ⌜ Standing (now cache) (now store) (run .state) (run .registers .all) × (k < 23) ⌝ }
-    ensures { λ r. ⌜ Standing (now (cache .exit)) (now (store .exit)) (r .state) (r .registers .all) ⌝ }
+    requires { ⌜ Invariant (now cache) (now store) (run .state) (run .registers .all) × (k < 23) ⌝ }
+    ensures { λ r. ⌜ Invariant (now (cache .exit)) (now (store .exit)) (r .state) (r .registers .all) ⌝ }
 {
-    let two = calls::low(store, cache, run, k);
+    let two = calls::low(store, cache, run, k + 1);
     let last = calls::tidy(store, cache, two, true);
     show::count(last);
     last
@@ -47,17 +50,18 @@ fn second(store: &mut [u8], cache: &mut [u64], run: Run, k: usize) -> Run
 
 // A gate on two qubits, whose lower middle is the index j.
 fn first(store: &mut [u8], cache: &mut [u64], run: Run, g: Gate, j: usize, m: u64) -> Run
-    requires { ⌜ Standing (now cache) (now store) (run .state) (run .registers .all) × (Allowed g × ((j < 23) × (m < 16777216))) ⌝ }
-    ensures { λ r. ⌜ Standing (now (cache .exit)) (now (store .exit)) (r .state) (r .registers .all) ⌝ }
+    requires { ⌜ Invariant (now cache) (now store) (run .state) (run .registers .all)
+        × (QubitsInRange g × ((j < 23) × (m < masks))) ⌝ }
+    ensures { λ r. ⌜ Invariant (now (cache .exit)) (now (store .exit)) (r .state) (r .registers .all) ⌝ }
 {
     let one = contracted(store, cache, run, g, m);
-    calls::low(store, cache, one, j)
+    calls::low(store, cache, one, j + 1)
 }
 
 // CX on neighbouring qubits q and q + 1, the first of which has the middle j.
 fn entangle(store: &mut [u8], cache: &mut [u64], run: Run, q: usize) -> Run
-    requires { ⌜ Standing (now cache) (now store) (run .state) (run .registers .all) × (q < 7) ⌝ }
-    ensures { λ r. ⌜ Standing (now (cache .exit)) (now (store .exit)) (r .state) (r .registers .all) ⌝ }
+    requires { ⌜ Invariant (now cache) (now store) (run .state) (run .registers .all) × (q < 7) ⌝ }
+    ensures { λ r. ⌜ Invariant (now (cache .exit)) (now (store .exit)) (r .state) (r .registers .all) ⌝ }
 {
     let j = 3 * q + 1;
     let m = pair(q);
@@ -67,7 +71,7 @@ fn entangle(store: &mut [u8], cache: &mut [u64], run: Run, q: usize) -> Run
 
 // The middles of qubits q and q + 1, as a mask.
 fn pair(q: usize) -> u64
-    ensures { λ r. ⌜ r < 16777216 ⌝ }
+    ensures { λ r. ⌜ r < masks ⌝ }
 {
     match q {
         0 => 18,
@@ -83,8 +87,8 @@ fn pair(q: usize) -> u64
 
 // CX on each qubit and the next.
 fn chain(store: &mut [u8], cache: &mut [u64], run: Run) -> Run
-    requires { ⌜ Standing (now cache) (now store) (run .state) (run .registers .all) ⌝ }
-    ensures { λ r. ⌜ Standing (now (cache .exit)) (now (store .exit)) (r .state) (r .registers .all) ⌝ }
+    requires { ⌜ Invariant (now cache) (now store) (run .state) (run .registers .all) ⌝ }
+    ensures { λ r. ⌜ Invariant (now (cache .exit)) (now (store .exit)) (r .state) (r .registers .all) ⌝ }
 {
     let mut r = run;
     let mut q = 0;
@@ -97,8 +101,8 @@ fn chain(store: &mut [u8], cache: &mut [u64], run: Run) -> Run
 
 // H on qubit 0, then the chain.
 fn entangled(store: &mut [u8], cache: &mut [u64], run: Run) -> Run
-    requires { ⌜ Standing (now cache) (now store) (run .state) (run .registers .all) ⌝ }
-    ensures { λ r. ⌜ Standing (now (cache .exit)) (now (store .exit)) (r .state) (r .registers .all) ⌝ }
+    requires { ⌜ Invariant (now cache) (now store) (run .state) (run .registers .all) ⌝ }
+    ensures { λ r. ⌜ Invariant (now (cache .exit)) (now (store .exit)) (r .state) (r .registers .all) ⌝ }
 {
     let a = single(store, cache, run, Gate::H(0), 1, 2);
     chain(store, cache, a)
@@ -106,8 +110,8 @@ fn entangled(store: &mut [u8], cache: &mut [u64], run: Run) -> Run
 
 // T on qubit 3, S on 5.
 fn turned(store: &mut [u8], cache: &mut [u64], run: Run) -> Run
-    requires { ⌜ Standing (now cache) (now store) (run .state) (run .registers .all) ⌝ }
-    ensures { λ r. ⌜ Standing (now (cache .exit)) (now (store .exit)) (r .state) (r .registers .all) ⌝ }
+    requires { ⌜ Invariant (now cache) (now store) (run .state) (run .registers .all) ⌝ }
+    ensures { λ r. ⌜ Invariant (now (cache .exit)) (now (store .exit)) (r .state) (r .registers .all) ⌝ }
 {
     let a = single(store, cache, run, Gate::T(3), 10, 1024);
     single(store, cache, a, Gate::S(5), 16, 65536)
@@ -115,8 +119,8 @@ fn turned(store: &mut [u8], cache: &mut [u64], run: Run) -> Run
 
 // SW on qubits 2 and 6.
 fn swapped(store: &mut [u8], cache: &mut [u64], run: Run) -> Run
-    requires { ⌜ Standing (now cache) (now store) (run .state) (run .registers .all) ⌝ }
-    ensures { λ r. ⌜ Standing (now (cache .exit)) (now (store .exit)) (r .state) (r .registers .all) ⌝ }
+    requires { ⌜ Invariant (now cache) (now store) (run .state) (run .registers .all) ⌝ }
+    ensures { λ r. ⌜ Invariant (now (cache .exit)) (now (store .exit)) (r .state) (r .registers .all) ⌝ }
 {
     let a = first(store, cache, run, Gate::Sw(2, 6), 7, 524416);
     second(store, cache, a, 19)
@@ -124,8 +128,8 @@ fn swapped(store: &mut [u8], cache: &mut [u64], run: Run) -> Run
 
 // CZ on qubits 1 and 4.
 fn signed(store: &mut [u8], cache: &mut [u64], run: Run) -> Run
-    requires { ⌜ Standing (now cache) (now store) (run .state) (run .registers .all) ⌝ }
-    ensures { λ r. ⌜ Standing (now (cache .exit)) (now (store .exit)) (r .state) (r .registers .all) ⌝ }
+    requires { ⌜ Invariant (now cache) (now store) (run .state) (run .registers .all) ⌝ }
+    ensures { λ r. ⌜ Invariant (now (cache .exit)) (now (store .exit)) (r .state) (r .registers .all) ⌝ }
 {
     let a = first(store, cache, run, Gate::Cz(1, 4), 4, 8208);
     second(store, cache, a, 13)
@@ -133,24 +137,24 @@ fn signed(store: &mut [u8], cache: &mut [u64], run: Run) -> Run
 
 // Then H on qubit 7.
 fn ending(store: &mut [u8], cache: &mut [u64], run: Run) -> Run
-    requires { ⌜ Standing (now cache) (now store) (run .state) (run .registers .all) ⌝ }
-    ensures { λ r. ⌜ Standing (now (cache .exit)) (now (store .exit)) (r .state) (r .registers .all) ⌝ }
+    requires { ⌜ Invariant (now cache) (now store) (run .state) (run .registers .all) ⌝ }
+    ensures { λ r. ⌜ Invariant (now (cache .exit)) (now (store .exit)) (r .state) (r .registers .all) ⌝ }
 {
     let a = signed(store, cache, run);
     single(store, cache, a, Gate::H(7), 22, 4194304)
 }
 
 fn middle(store: &mut [u8], cache: &mut [u64], run: Run) -> Run
-    requires { ⌜ Standing (now cache) (now store) (run .state) (run .registers .all) ⌝ }
-    ensures { λ r. ⌜ Standing (now (cache .exit)) (now (store .exit)) (r .state) (r .registers .all) ⌝ }
+    requires { ⌜ Invariant (now cache) (now store) (run .state) (run .registers .all) ⌝ }
+    ensures { λ r. ⌜ Invariant (now (cache .exit)) (now (store .exit)) (r .state) (r .registers .all) ⌝ }
 {
     let a = turned(store, cache, run);
     swapped(store, cache, a)
 }
 
 fn gates(store: &mut [u8], cache: &mut [u64], run: Run) -> Run
-    requires { ⌜ Standing (now cache) (now store) (run .state) (run .registers .all) ⌝ }
-    ensures { λ r. ⌜ Standing (now (cache .exit)) (now (store .exit)) (r .state) (r .registers .all) ⌝ }
+    requires { ⌜ Invariant (now cache) (now store) (run .state) (run .registers .all) ⌝ }
+    ensures { λ r. ⌜ Invariant (now (cache .exit)) (now (store .exit)) (r .state) (r .registers .all) ⌝ }
 {
     let a = entangled(store, cache, run);
     let b = middle(store, cache, a);
@@ -158,7 +162,7 @@ fn gates(store: &mut [u8], cache: &mut [u64], run: Run) -> Run
 }
 
 fn from_unit(store: &mut [u8], cache: &mut [u64], run: Run)
-    requires { ⌜ Standing (now cache) (now store) (run .state) (run .registers .all) ⌝ }
+    requires { ⌜ Invariant (now cache) (now store) (run .state) (run .registers .all) ⌝ }
 {
     let one = calls::unit(store, cache, run, 8);
     show::count(one);

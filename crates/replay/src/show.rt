@@ -7,8 +7,8 @@ use diagram::registers::Held;
 use diagram::value;
 ghost use Prim.Native.Nat.{_<_};
 ghost use Rattle.diagram.specs.Meaning.{Valid};
+ghost use Rattle.diagram.specs.Registers.{RegistersValid};
 ghost use Rattle.diagram.specs.Engine.{Sound};
-ghost use Rattle.diagram.specs.Registers.{Registered};
 
 fn number(before: &[u8], n: u64) {
     io::write_all(1, before);
@@ -39,7 +39,7 @@ fn line(store: &[u8], s: State, e: Edge)
 
 // Register i, if it is filled.
 pub fn register(store: &[u8], run: Run, i: usize)
-    requires { ⌜ Sound (now store) (run .state) × (Registered (run .state .count) (run .registers .all) × (i < 16)) ⌝ }
+    requires { ⌜ Sound (now store) (run .state) × (RegistersValid (run .state .count) (run .registers .all) × (i < 16)) ⌝ }
 {
     let s = run.state;
     let Held::Edge(e) = registers::get(run.registers, i) else {
@@ -55,7 +55,7 @@ pub fn count(run: Run) {
 
 // The values of register 0 at chosen inputs and outputs of 8 qubits.
 pub fn values(store: &[u8], run: Run)
-    requires { ⌜ Sound (now store) (run .state) × Registered (run .state .count) (run .registers .all) ⌝ }
+    requires { ⌜ Sound (now store) (run .state) × RegistersValid (run .state .count) (run .registers .all) ⌝ }
 {
     let s = run.state;
     let Held::Edge(e) = registers::get(run.registers, 0) else {

@@ -1,7 +1,8 @@
 // The sessions, from parts of the input that end anywhere.
 use crate::run;
 
-// How many bytes of a session have come: the buffer's length and one where they are too many. Every other session is lent a cache of no words.
+// How many bytes of a session have come: one more than the buffer's length where they are too many. Every other session
+// is lent a cache of no words.
 pub struct Place {
     pub length: usize,
     pub cached: bool,

@@ -1,8 +1,10 @@
-// Runs the sessions of standard input, each by the one call that document 01 names. A byte 0 ends a session. Its first line has the capacity in
-// nodes and the length of the output in bytes, parted by a tab; the session's text follows.
+// Runs the sessions of standard input, each by the one call that document 01 names. A byte 0 ends a session. Its first
+// line has the capacity in nodes and the length of the output in bytes, with a tab between them; the session's text
+// follows.
 //
-// Of each session it writes the bytes that the session printed, and a line: `=`, the code, lines answered, bytes written and the node count, parted
-// by tabs. The stored output comes from an independent calculation on plain tables of values.
+// Of each session it writes the bytes that the session printed, and a line: `=`, the code, lines answered, bytes
+// written and the node count, with tabs between them. The stored output comes from an independent calculation on plain
+// tables of values.
 mod feed;
 mod header;
 mod run;
@@ -13,22 +15,24 @@ use libc::STDIN_FILENO;
 // 2048 nodes of 16 bytes.
 const STORE: usize = 32768;
 
+// 1024 remembered results of four words.
 const CACHE: usize = 4096;
 
-enum Turn {
+// Bytes came, or the input has ended.
+enum AfterRead {
     More(Place),
     End,
 }
 
 // Reads once, and runs the sessions that end in what came.
-fn read(text: &mut [u8], store: &mut [u8], cache: &mut [u64], place: Place) -> Turn {
+fn read(text: &mut [u8], store: &mut [u8], cache: &mut [u64], place: Place) -> AfterRead {
     let mut part = io::buffer();
     let got = libc::read(STDIN_FILENO, &mut part);
     if got <= 0 {
-        return Turn::End;
+        return AfterRead::End;
     }
     let n = io::count(got, &part);
-    Turn::More(feed::feed(text, store, cache, place, &part[..n]))
+    AfterRead::More(feed::feed(text, store, cache, place, &part[..n]))
 }
 
 // A proved loop has to end, and nothing says that an input does. So it counts down from a number that no run uses up.
@@ -40,8 +44,8 @@ fn serve(text: &mut [u8], store: &mut [u8], cache: &mut [u64]) {
     let mut turns = u64::MAX;
     while 0 < turns {
         match read(text, store, cache, place) {
-            Turn::More(p) => place = p,
-            Turn::End => return,
+            AfterRead::More(p) => place = p,
+            AfterRead::End => return,
         }
         turns -= 1;
     }

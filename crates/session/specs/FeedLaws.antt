@@ -1,4 +1,4 @@
--- Taking in bytes one after the other, until the input ends.
+-- Bytes taken in one after the other, and the input's last line.
 use mathlib.Core.Path.{_≡_, refl, ap, sym, _∙_}
 use mathlib.Core.Logic.{_≢_}
 use mathlib.Core.Bool.{Bool, true, false, cond}
@@ -12,27 +12,28 @@ use lib.ListN.{length, take, getD, length-append}
 use lib.Seq.{take-suc, take-all, length-take-le}
 use Rattle.diagram.specs.Node.{capacity}
 use Rattle.text.specs.Text.{Bytes, LF, tab, lines, parts, onto}
-use Rattle.text.specs.Answers.{printed}
-use Rattle.text.specs.Session.{most, begun, more, run}
-use Rattle.text.specs.Engine.{tallyOf, Started}
-use Rattle.text.specs.Squeeze.{squeezedFrom, squeezed, Begun, Pushed}
+use Rattle.text.specs.Answer.{printed}
+use Rattle.text.specs.Session.{most, emptyRun, withAnswer, run}
+use Rattle.text.specs.Squeeze.{squeezedFrom, squeezed, NoneEnsures, PushEnsures}
+use Rattle.text.specs.Engine.{tallyOf, EngineStartEnsures}
+use Rattle.text.specs.SessionLaws.{run-append}
 use Rattle.text.specs.declared.engine.Engine.{Engine}
 use Rattle.text.specs.declared.squeeze.Squeeze.{Squeeze}
-use Rattle.session.specs.Answer.{Unbroken, none, byte, replyTo, Answered}
-use Rattle.text.specs.SessionLaws.{run-append}
+use Rattle.session.specs.Answer.{Memory, memory, NoLF, none, byte, replyTo, AnswerEnsures}
 use Rattle.session.specs.AnswerLaws.{line-first}
-use Rattle.session.specs.Feed.{Ran, RanFirst, RanTo, Keeps, Takes, Ends}
-use Rattle.session.specs.declared.answer.Told.{Told}
-use Rattle.session.specs.declared.feed.Held.{Held}
+use Rattle.session.specs.Feed.{AfterLines, AfterFirstLines, AfterLinesBefore, FeedRequires, FeedEnsures}
+use Rattle.session.specs.Feed.{LastEnsures, FeedLoop}
+use Rattle.session.specs.declared.answer.LineResult.{LineResult}
+use Rattle.session.specs.declared.feed.SessionState.{SessionState}
 
 -- lines
 
-unbroken-more : {s : Bytes} {b : ℕ} → Unbroken s → b ≢ LF → Unbroken (s ++ (b ∷ []))
-unbroken-more none h = byte h none
-unbroken-more (byte g u) h = byte g (unbroken-more u h)
+no-LF-more : {s : Bytes} {b : ℕ} → NoLF s → b ≢ LF → NoLF (s ++ (b ∷ []))
+no-LF-more none h = byte h none
+no-LF-more (byte g u) h = byte g (no-LF-more u h)
 
 -- bytes without an LF are one line
-line-last : {x : ℕ} {s : Bytes} → Unbroken (x ∷ s) → lines (x ∷ s) ≡ (x ∷ s) ∷ []
+line-last : {x : ℕ} {s : Bytes} → NoLF (x ∷ s) → lines (x ∷ s) ≡ (x ∷ s) ∷ []
 unfolding lines parts onto
 line-last (byte {x} h none) = rw (ne-eqb x LF h)
 line-last (byte {x} h (byte g u)) = rw (ne-eqb x LF h, line-last (byte g u))
@@ -46,7 +47,7 @@ kept-some x s = go (eqb x tab)
     go true = omega arith
     go false = omega arith
 
-line-kept : {s : Bytes} → Unbroken s → 0 < length (squeezed s) → lines s ≡ s ∷ []
+line-kept : {s : Bytes} → NoLF s → 0 < length (squeezed s) → lines s ≡ s ∷ []
 unfolding squeezed squeezedFrom
 line-kept none h = absurd (omega arith)
 line-kept (byte g u) h = line-last (byte g u)
@@ -58,23 +59,34 @@ line-none (x ∷ s) h = absurd (omega (arith, kept-some x s))
 
 -- lines that were run
 
-pub ran-none : {s c : List ℕ} {e : Engine} → Started c s e → Ran [] s e
-unfolding run begun
-ran-none a = record { output = []; is = λ room h. rw (a .is) }
+pub after-none : {s c : List ℕ} {e : Engine} → EngineStartEnsures c s e → AfterLines [] s e
+unfolding run emptyRun
+after-none a = record { output = []; is = λ room h. rw (a .is) }
 
-pub ran-more : {ls : List Bytes} {s s' : List ℕ} {e n : Engine} (l : Bytes) → length s' ≡ length s → Ran ls s e → tallyOf s' n ≡ replyTo l s e .1
-    → Ran (ls ++ (l ∷ [])) s' n
-unfolding run more
-ran-more {ls} {s} {s'} {e} {n} l k r t = record {
+pub after-more : {ls : List Bytes} {s s' : List ℕ} {e n : Engine} (l : Bytes) → length s' ≡ length s → AfterLines ls s e
+    → tallyOf s' n ≡ replyTo l s e .1
+    → AfterLines (ls ++ (l ∷ [])) s' n
+unfolding run withAnswer
+after-more {ls} {s} {s'} {e} {n} l k r t = record {
   output = r .output ++ printed (replyTo l s e .0);
   is = λ room h.
       let w : length (r .output) + 16 ≤ room = omega (arith, length-append (r .output) (printed (replyTo l s e .0))) in
-      rw (k, t, run-append (most (capacity s)) room ls (l ∷ []) begun, r .is room w, le-leb _ _ w, length-append ls (l ∷ []), add-one (length ls));
+      rw (
+        k,
+        t,
+        run-append (most (capacity s)) room ls (l ∷ []) emptyRun,
+        r .is room w,
+        le-leb _ _ w,
+        length-append ls
+            (l ∷ []),
+        add-one (length ls),
+      );
 }
 
 -- behind the lines that were run, one byte more
-abbrev to-more : {text : Bytes} {s : List ℕ} {e : Engine} (b : ℕ) → RanTo text s e → RanTo (text ++ (b ∷ [])) s e
-to-more {text} b f = record {
+abbrev before-more : {text : Bytes} {s : List ℕ} {e : Engine} (b : ℕ) → AfterLinesBefore text s e
+    → AfterLinesBefore (text ++ (b ∷ [])) s e
+before-more {text} b f = record {
   done = f .done;
   behind = f .behind ++ (b ∷ []);
   split = λ rest. rw (append-assoc text (b ∷ []) rest, append-assoc (f .behind) (b ∷ []) rest) (f .split (b ∷ rest));
@@ -83,18 +95,20 @@ to-more {text} b f = record {
 
 -- one byte: a line's end, or a byte of a line
 
-module _ {line c s : List ℕ} {h : Held} where
-  pub takes-end : {line' c' s' : List ℕ} {b : ℕ} {q : Squeeze} {t : Told} → h .written ≡ true → b ≡ LF → length line' ≡ length line → length s' ≡ length s
-      → Keeps line c s h → Answered line (h .squeeze) (h .engine) s c' s' (t .engine) → Begun q
-      → Takes (b ∷ []) line c s h line' c' s' (record { squeeze = q; engine = t .engine; written = t .written })
-  takes-end {line'} {c'} {s'} {b} {q} {t} w z m k r a g = rw z (record {
-    keeps = after;
+module _ {line c s : List ℕ} {h : SessionState} where
+  pub feeds-end : {line' c' s' : List ℕ} {b : ℕ} {q : Squeeze} {t : LineResult} → h .written ≡ true → b ≡ LF
+      → length line' ≡ length line → length s' ≡ length s → FeedRequires (memory line c s) h
+      → AnswerEnsures (memory line c s) (h .squeeze) (h .engine) (memory line' c' s') (t .engine) → NoneEnsures q
+      → FeedEnsures (b ∷ []) (memory line c s) h (memory line' c' s')
+      (record { squeeze = q; engine = t .engine; written = t .written })
+  feeds-end {line'} {c'} {s'} {b} {q} {t} w z m k r a g = rw z (record {
+    requires = after;
     on = λ text n f.
         let v = f .seen w in
         record {
           lines = n + 1;
-          fed = record {
-            keeps = after;
+          invariant = record {
+            requires = after;
             to = record {
               done = f .to .done ++ (f .to .behind ∷ []);
               behind = [];
@@ -105,7 +119,7 @@ module _ {line c s : List ℕ} {h : Held} where
                     line-first rest (v .unbroken),
                     append-assoc (f .to .done) (f .to .behind ∷ []) (lines rest),
                   );
-              ran = ran-more (f .to .behind) k (f .to .ran) (a .tally (f .to .behind) (v .unbroken) (v .squeezing));
+              ran = after-more (f .to .behind) k (f .to .ran) (a .tally (f .to .behind) (v .unbroken) (v .squeezing));
             };
             count = length-append (f .to .done) (f .to .behind ∷ []) ∙ (rw (f .count));
             seen = λ o. record { unbroken = none; squeezing = g .start line' };
@@ -117,22 +131,25 @@ module _ {line c s : List ℕ} {h : Held} where
     store = λ o. absurd (let i : _≡_ {A = ℕ} 0 1 = cc in omega arith);
   })
     where
-      after : Keeps line' c' s' (record { squeeze = q; engine = t .engine; written = t .written })
-      after = record { room = omega (arith, r .room, m); fits = g .fits; standing = a .standing }
+      after : FeedRequires (memory line' c' s') (record { squeeze = q; engine = t .engine; written = t .written })
+      after = record { room = omega (arith, r .room, m); fits = g .fits; invariant = a .invariant }
 
-  pub takes-byte : {line' : List ℕ} {b : ℕ} {q : Squeeze} → h .written ≡ true → b ≢ LF → Keeps line c s h → Pushed line (h .squeeze) b line' q
-      → Takes (b ∷ []) line c s h line' c s (record { squeeze = q; engine = h .engine; written = h .written })
-  takes-byte {line'} {b} {q} w z k p = record {
-    keeps = after;
+  pub feeds-byte : {line' : List ℕ} {b : ℕ} {q : Squeeze} → h .written ≡ true → b ≢ LF
+      → FeedRequires (memory line c s) h → PushEnsures line (h .squeeze) b line' q
+      → FeedEnsures (b ∷ []) (memory line c s) h (memory line' c s)
+      (record { squeeze = q; engine = h .engine; written = h .written })
+  feeds-byte {line'} {b} {q} w z k p = record {
+    requires = after;
     on = λ text n f.
         let v = f .seen w in
         record {
           lines = n;
-          fed = record {
-            keeps = after;
-            to = to-more b (f .to);
+          invariant = record {
+            requires = after;
+            to = before-more b (f .to);
             count = f .count;
-            seen = λ o. record { unbroken = unbroken-more (v .unbroken) z; squeezing = p .on (f .to .behind) (v .squeezing) };
+            seen =
+                λ o. record { unbroken = no-LF-more (v .unbroken) z; squeezing = p .on (f .to .behind) (v .squeezing) };
           };
           more = omega arith;
           lost = λ o q. absurd (let i : _≡_ {A = ℕ} 0 1 = cc in omega arith);
@@ -141,18 +158,19 @@ module _ {line c s : List ℕ} {h : Held} where
     store = λ o. refl;
   }
     where
-      after : Keeps line' c s (record { squeeze = q; engine = h .engine; written = h .written })
-      after = record { room = omega (arith, k .room, p .room); fits = p .fits; standing = k .standing }
+      after : FeedRequires (memory line' c s) (record { squeeze = q; engine = h .engine; written = h .written })
+      after = record { room = omega (arith, k .room, p .room); fits = p .fits; invariant = k .invariant }
 
   -- a write has failed
-  pub takes-lost : {b : ℕ} → h .written ≡ false → Keeps line c s h → Takes (b ∷ []) line c s h line c s h
-  takes-lost {b} w k = record {
-    keeps = k;
+  pub feeds-lost : {b : ℕ} → h .written ≡ false → FeedRequires (memory line c s) h
+      → FeedEnsures (b ∷ []) (memory line c s) h (memory line c s) h
+  feeds-lost {b} w k = record {
+    requires = k;
     on = λ text n f. record {
       lines = n;
-      fed = record {
-        keeps = k;
-        to = to-more b (f .to);
+      invariant = record {
+        requires = k;
+        to = before-more b (f .to);
         count = f .count;
         seen = λ o. absurd (let i : _≡_ {A = ℕ} 0 1 = cc in omega arith);
       };
@@ -163,19 +181,16 @@ module _ {line c s : List ℕ} {h : Held} where
     store = λ o. refl;
   }
 
--- the loop over a part: i of its bytes are taken in
-pub record Feeding (part line₀ c₀ s₀ : List ℕ) (h₀ : Held) (i : ℕ) (line c s : List ℕ) (h : Held) : Type 0 where
-  pub within : i ≤ length part
-  pub takes : Takes (take i part) line₀ c₀ s₀ h₀ line c s h
+-- the loop over a part
 
-pub feeding-start : {part line c s : List ℕ} {h : Held} → Keeps line c s h → Feeding part line c s h 0 line c s h
-feeding-start k = record {
+pub feed-start : {part : Bytes} {m : Memory} {h : SessionState} → FeedRequires m h → FeedLoop part m h 0 m h
+feed-start k = record {
   within = omega arith;
-  takes = record {
-    keeps = k;
+  feeds = record {
+    requires = k;
     on = λ text n f. record {
       lines = n;
-      fed = rw (append-nil text) f;
+      invariant = rw (append-nil text) f;
       more = omega arith;
       lost = λ o q. absurd (let i : _≡_ {A = ℕ} 0 1 = cc in omega arith);
     };
@@ -184,68 +199,80 @@ feeding-start k = record {
   };
 }
 
-module _ {part line₀ c₀ s₀ : List ℕ} {h₀ : Held} {i : ℕ} {line c s : List ℕ} {h : Held} (g : Feeding part line₀ c₀ s₀ h₀ i line c s h) where
-  pub feeding-on : {line' c' s' : List ℕ} {r : Held} → i < length part → Takes (getD part i 0 ∷ []) line c s h line' c' s' r
-      → Feeding part line₀ c₀ s₀ h₀ (i + 1) line' c' s' r
-  feeding-on l b = record {
+module _ {part : Bytes} {m₀ : Memory} {h₀ : SessionState} {i : ℕ} {m : Memory} {h : SessionState}
+    (g : FeedLoop part m₀ h₀ i m h) where
+  pub feed-step : {m' : Memory} {r : SessionState} → i < length part → FeedEnsures (getD part i 0 ∷ []) m h m' r
+      → FeedLoop part m₀ h₀ (i + 1) m' r
+  feed-step l b = record {
     within = omega arith;
-    takes = record {
-      keeps = b .keeps;
+    feeds = record {
+      requires = b .requires;
       on = λ text n f.
-          let x = g .takes .on text n f in
-          let y = b .on (text ++ take i part) (x .lines) (x .fed) in
+          let x = g .feeds .on text n f in
+          let y = b .on (text ++ take i part) (x .lines) (x .invariant) in
           record {
             lines = y .lines;
-            fed = rw (add-one i, take-suc part i 0 l, ← append-assoc text (take i part) (getD part i 0 ∷ [])) (y .fed);
+            invariant =
+                rw (add-one i, take-suc part i 0 l, ← append-assoc text (take i part) (getD part i 0 ∷ []))
+                (y .invariant);
             more = omega (arith, x .more, y .more);
             lost = λ o q. more-lost (h .written) refl (x .lost o) (λ w. y .lost w q) (x .more) (y .more);
           };
-      stays = λ o. b .stays (still o) ∙ g .takes .stays o;
-      store = λ o. b .store (still o) ∙ g .takes .store o;
+      stays = λ o. b .stays (unwritten o) ∙ g .feeds .stays o;
+      store = λ o. b .store (unwritten o) ∙ g .feeds .store o;
     };
   }
     where
-      more-lost : {n m k : ℕ} (w : Bool) → h .written ≡ w → (h .written ≡ false → n < m) → (h .written ≡ true → m < k) → n ≤ m → m ≤ k → n < k
+      more-lost : {n m k : ℕ} (w : Bool) → h .written ≡ w → (h .written ≡ false → n < m) → (h .written ≡ true → m < k)
+          → n ≤ m → m ≤ k → n < k
       more-lost true e p q x y = omega (arith, q e)
       more-lost false e p q x y = omega (arith, p e)
 
-      still : h₀ .written ≡ false → h .written ≡ false
-      still o = ap (λ (x : Held). x .written) (g .takes .stays o) ∙ o
+      unwritten : h₀ .written ≡ false → h .written ≡ false
+      unwritten o = ap (λ (x : SessionState). x .written) (g .feeds .stays o) ∙ o
 
-  pub feeding-end : length part ≤ i → Takes part line₀ c₀ s₀ h₀ line c s h
-  feeding-end l = rw (take-all i part l) at (g .takes)
+  pub feed-end : length part ≤ i → FeedEnsures part m₀ h₀ m h
+  feed-end l = rw (take-all i part l) at (g .feeds)
 
 -- the input's end
 
-pub first-to : {text : Bytes} {s : List ℕ} {e : Engine} → RanTo text s e → RanFirst text s e
-first-to {text} f = record {
+pub first-before : {text : Bytes} {s : List ℕ} {e : Engine} → AfterLinesBefore text s e → AfterFirstLines text s e
+first-before {text} f = record {
   done = f .done;
   others = lines (f .behind);
   split = rw (append-nil text, append-nil (f .behind)) at (f .split []);
   ran = f .ran;
 }
 
-pub first-all : {text : Bytes} {s : List ℕ} {e : Engine} → Ran (lines text) s e → RanFirst text s e
+pub first-all : {text : Bytes} {s : List ℕ} {e : Engine} → AfterLines (lines text) s e → AfterFirstLines text s e
 first-all {text} r = record { done = lines text; others = []; split = sym (append-nil (lines text)); ran = r }
 
-module _ {line c s : List ℕ} {h : Held} where
-  pub ends-whole : h .written ≡ true → h .squeeze .length ≤ 0 → Ends line c s h s (record { engine = h .engine; written = true })
-  ends-whole w z = record {
+module _ {line c s : List ℕ} {h : SessionState} where
+  pub last-none : h .written ≡ true → h .squeeze .length ≤ 0
+      → LastEnsures (memory line c s) h s (record { engine = h .engine; written = true })
+  last-none w z = record {
     all = λ text n f.
         let v = f .seen w in
-        let k : length (squeezed (f .to .behind)) ≤ 0 = rw (← v .squeezing .kept) (omega (arith, length-take-le (h .squeeze .length) line (omega arith))) in
-        let e : lines text ≡ f .to .done = (rw (append-nil text, append-nil (f .to .behind), line-none (f .to .behind) k) at (f .to .split [])) ∙ append-nil (f .to .done) in
+        let k : length (squeezed (f .to .behind)) ≤ 0 =
+        rw (← v .squeezing .kept) (omega (arith, length-take-le (h .squeeze .length) line (omega arith))) in
+        let e : lines text ≡ f .to .done =
+        (rw (append-nil text, append-nil (f .to .behind), line-none (f .to .behind) k) at (f .to .split []))
+        ∙ append-nil (f .to .done) in
         rw e (f .to .ran);
   }
 
-  pub ends-line : {c' s' : List ℕ} {t : Told} → h .written ≡ true → 0 < h .squeeze .length → length s' ≡ length s → Keeps line c s h
-      → Answered line (h .squeeze) (h .engine) s c' s' (t .engine) → Ends line c s h s' t
-  ends-line w z n k a = record {
+  pub last-line : {line' c' s' : List ℕ} {t : LineResult} → h .written ≡ true → 0 < h .squeeze .length
+      → length s' ≡ length s → FeedRequires (memory line c s) h
+      → AnswerEnsures (memory line c s) (h .squeeze) (h .engine) (memory line' c' s') (t .engine)
+      → LastEnsures (memory line c s) h s' t
+  last-line w z n k a = record {
     all = λ text m f.
         let v = f .seen w in
         let q = k .fits in
-        let b : length (take (h .squeeze .length) line) ≡ h .squeeze .length = length-take-le _ line (omega (arith, q .tabs, q .width, q .short, k .room)) in
+        let b : length (take (h .squeeze .length) line) ≡ h .squeeze .length =
+        length-take-le _ line (omega (arith, q .tabs, q .width, q .short, k .room)) in
         let o : 0 < length (squeezed (f .to .behind)) = rw (← v .squeezing .kept) (omega arith) in
-        let e : lines text ≡ f .to .done ++ (f .to .behind ∷ []) = rw (append-nil text, append-nil (f .to .behind), line-kept (v .unbroken) o) at (f .to .split []) in
-        rw e (ran-more (f .to .behind) n (f .to .ran) (a .tally (f .to .behind) (v .unbroken) (v .squeezing)));
+        let e : lines text ≡ f .to .done ++ (f .to .behind ∷ []) =
+        rw (append-nil text, append-nil (f .to .behind), line-kept (v .unbroken) o) at (f .to .split []) in
+        rw e (after-more (f .to .behind) n (f .to .ran) (a .tally (f .to .behind) (v .unbroken) (v .squeezing)));
   }

@@ -6,10 +6,10 @@ use text::progress::Progress;
 use text::squeeze::Squeeze;
 ghost use Prim.Native.Nat.{_≤_};
 ghost use lib.ListN.{length};
-ghost use Rattle.session.specs.Answer.{Ready, Answered, Replied};
+ghost use Rattle.session.specs.Answer.{memory, AnswerRequires, AnswerEnsures, ReplyEnsures};
 
-// What a line leaves, and whether every answer so far was written.
-pub struct Told {
+// The engine after a line, and whether every answer so far was written.
+pub struct LineResult {
     pub engine: Engine,
     pub written: bool,
 }
@@ -23,8 +23,9 @@ fn reply(
     squeeze: Squeeze,
     engine: Engine,
 ) -> Progress
-    requires { ⌜ Ready (now line) (now cache) (now store) squeeze engine × (16 ≤ length (now out)) ⌝ }
-    ensures { λ r. ⌜ Replied (now (line .entry)) squeeze engine (now (store .entry)) (now (cache .exit)) (now (store .exit)) (now (out .exit)) r ⌝ }
+    requires { ⌜ AnswerRequires (memory (now line) (now cache) (now store)) squeeze engine × (16 ≤ length (now out)) ⌝ }
+    ensures { λ r. ⌜ ReplyEnsures (memory (now (line .entry)) (now (cache .entry)) (now (store .entry))) squeeze engine
+        (memory (now (line .exit)) (now (cache .exit)) (now (store .exit))) (now (out .exit)) r ⌝ }
 {
     let n = squeeze.length;
     line[n] = b'\n';
@@ -39,9 +40,10 @@ pub fn answer(
     cache: &mut [u64],
     squeeze: Squeeze,
     engine: Engine,
-) -> Told
-    requires { ⌜ Ready (now line) (now cache) (now store) squeeze engine ⌝ }
-    ensures { λ r. ⌜ Answered (now (line .entry)) squeeze engine (now (store .entry)) (now (cache .exit)) (now (store .exit)) (r .engine) ⌝ }
+) -> LineResult
+    requires { ⌜ AnswerRequires (memory (now line) (now cache) (now store)) squeeze engine ⌝ }
+    ensures { λ r. ⌜ AnswerEnsures (memory (now (line .entry)) (now (cache .entry)) (now (store .entry))) squeeze engine
+        (memory (now (line .exit)) (now (cache .exit)) (now (store .exit))) (r .engine) ⌝ }
 {
     let mut out = [0u8; 16];
     let p = reply(line, store, cache, &mut out, squeeze, engine);
@@ -49,5 +51,5 @@ pub fn answer(
     let n = p.bytes;
     let written = io::write_all(STDOUT_FILENO, &out[a..n]);
     let engine = p.engine;
-    Told { engine, written }
+    LineResult { engine, written }
 }

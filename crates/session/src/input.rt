@@ -1,15 +1,18 @@
 // Standard input, part after part.
 use crate::feed;
-use crate::feed::Held;
-use stdin::Came;
+use crate::feed::SessionState;
 use stdin::Next;
+use stdin::ReadResult;
+ghost use mathlib.Core.Path.{_≡_};
+ghost use mathlib.Core.Bool.{true};
 ghost use Rattle.io.specs.Counts.{Counts};
-ghost use Rattle.session.specs.Feed.{Keeps};
-ghost use Rattle.session.specs.Input.{Took, Reads};
+ghost use Rattle.session.specs.Answer.{memory};
+ghost use Rattle.session.specs.Feed.{FeedRequires};
+ghost use Rattle.session.specs.Input.{goesOn, TakeEnsures, ReadEnsures, InputInvariant, ReceiveEnsures};
 
-// What is held after a read, and what the read says of what comes next.
-pub struct Turn {
-    pub held: Held,
+// What a read leaves, and what it says of what comes next.
+pub struct AfterRead {
+    pub state: SessionState,
     pub next: Next,
 }
 
@@ -18,25 +21,67 @@ fn take(
     line: &mut [u8],
     store: &mut [u8],
     cache: &mut [u64],
-    held: Held,
-    came: Came,
+    state: SessionState,
+    came: ReadResult,
     part: &[u8],
-) -> Turn
-    requires { ⌜ Keeps (now line) (now cache) (now store) held × Counts (came .count) (now part) ⌝ }
-    ensures { λ r. ⌜ Took came (now (part .entry)) (now (line .entry)) (now (cache .entry)) (now (store .entry)) held (now (line .exit)) (now (cache .exit)) (now (store .exit)) r ⌝ }
+) -> AfterRead
+    requires { ⌜ FeedRequires (memory (now line) (now cache) (now store)) state × Counts (came .count) (now part) ⌝ }
+    ensures { λ r. ⌜ TakeEnsures came (now (part .entry))
+        (memory (now (line .entry)) (now (cache .entry)) (now (store .entry))) state
+        (memory (now (line .exit)) (now (cache .exit)) (now (store .exit))) r ⌝ }
 {
     let n = came.count;
     let next = came.next;
-    let held = feed::feed(line, store, cache, held, &part[..n]);
-    Turn { held, next }
+    let state = feed::feed(line, store, cache, state, &part[..n]);
+    AfterRead { state, next }
 }
 
 // Reads once, and answers the lines that end in what came.
-pub fn read(line: &mut [u8], store: &mut [u8], cache: &mut [u64], held: Held) -> Turn
-    requires { ⌜ Keeps (now line) (now cache) (now store) held ⌝ }
-    ensures { λ r. ⌜ Reads (now (line .entry)) (now (cache .entry)) (now (store .entry)) held (now (line .exit)) (now (cache .exit)) (now (store .exit)) r ⌝ }
+fn read(line: &mut [u8], store: &mut [u8], cache: &mut [u64], state: SessionState) -> AfterRead
+    requires { ⌜ FeedRequires (memory (now line) (now cache) (now store)) state ⌝ }
+    ensures { λ r. ⌜ ReadEnsures (memory (now (line .entry)) (now (cache .entry)) (now (store .entry))) state
+        (memory (now (line .exit)) (now (cache .exit)) (now (store .exit))) r ⌝ }
 {
     let mut part = io::buffer();
     let came = stdin::read(&mut part);
-    take(line, store, cache, held, came, &part)
+    take(line, store, cache, state, came, &part)
+}
+
+fn goes_on(after: AfterRead) -> bool
+    ensures { λ r. ⌜ r ≡ goesOn after ⌝ }
+{
+    let state = after.state;
+    let next = after.next;
+    match next {
+        Next::More => state.written,
+        Next::End => false,
+        Next::Failed => false,
+    }
+}
+
+// Reads to the input's end, or to the first answer that could not be written. A proved loop has to end, and nothing
+// says that an input does. So it counts down from a number that no run uses up.
+pub fn receive(
+    line: &mut [u8],
+    store: &mut [u8],
+    cache: &mut [u64],
+    start: SessionState,
+) -> AfterRead
+    requires { ⌜ InputInvariant (memory (now line) (now cache) (now store)) start × (start .written ≡ true) ⌝ }
+    ensures { λ r. ⌜ ReceiveEnsures (memory (now (line .entry)) (now (cache .entry)) (now (store .entry))) start
+        (memory (now (line .exit)) (now (cache .exit)) (now (store .exit))) r ⌝ }
+{
+    let mut after = AfterRead {
+        state: start,
+        next: Next::More,
+    };
+    let mut turns = u64::MAX;
+    while 0 < turns {
+        after = read(line, store, cache, after.state);
+        if !goes_on(after) {
+            return after;
+        }
+        turns -= 1;
+    }
+    after
 }

@@ -8,18 +8,18 @@ mod feed;
 mod input;
 mod outcome;
 
-use feed::Held;
-use input::Turn;
+use feed::SessionState;
 use libc::STDERR_FILENO;
 use outcome::Ending;
 use outcome::Outcome;
-use stdin::Next;
 use text::engine;
 use text::squeeze;
 ghost use mathlib.Core.Path.{_≡_};
 ghost use mathlib.Core.Bool.{true};
 ghost use Rattle.diagram.specs.Node.{capacity};
-ghost use Rattle.session.specs.Input.{goesOn, Serving, Receives, Served};
+ghost use Rattle.session.specs.Answer.{memory};
+ghost use Rattle.session.specs.Input.{InputInvariant};
+ghost use Rattle.session.specs.Session.{SessionEnsures};
 
 // 2048 nodes of 16 bytes.
 const STORE: usize = 32768;
@@ -27,61 +27,29 @@ const STORE: usize = 32768;
 // 4096 remembered results of four words.
 const CACHE: usize = 16384;
 
-fn goes_on(t: Turn) -> bool
-    ensures { λ r. ⌜ r ≡ goesOn (t .next) (t .held .written) ⌝ }
-{
-    let held = t.held;
-    let next = t.next;
-    match next {
-        Next::More => held.written,
-        Next::End => false,
-        Next::Failed => false,
-    }
-}
-
-// A proved loop has to end, and nothing says that an input does. So it counts down from a number that no run uses up.
-fn serve(line: &mut [u8], store: &mut [u8], cache: &mut [u64], start: Held) -> Turn
-    requires { ⌜ Serving (now line) (now cache) (now store) start × (start .written ≡ true) ⌝ }
-    ensures { λ r. ⌜ Receives (now (line .entry)) (now (cache .entry)) (now (store .entry)) start (now (line .exit)) (now (cache .exit)) (now (store .exit)) r ⌝ }
-{
-    let mut t = Turn {
-        held: start,
-        next: Next::More,
-    };
-    let mut turns = u64::MAX;
-    while 0 < turns {
-        t = input::read(line, store, cache, t.held);
-        if !goes_on(t) {
-            return t;
-        }
-        turns -= 1;
-    }
-    t
-}
-
 // The input to its end, and its last line.
-fn session(line: &mut [u8], store: &mut [u8], cache: &mut [u64], start: Held) -> Outcome
-    requires { ⌜ Serving (now line) (now cache) (now store) start × (start .written ≡ true) ⌝ }
-    ensures { λ r. ⌜ Served (now (store .exit)) r ⌝ }
+fn session(line: &mut [u8], store: &mut [u8], cache: &mut [u64], start: SessionState) -> Outcome
+    requires { ⌜ InputInvariant (memory (now line) (now cache) (now store)) start × (start .written ≡ true) ⌝ }
+    ensures { λ r. ⌜ SessionEnsures (now (store .exit)) r ⌝ }
 {
-    let t = serve(line, store, cache, start);
-    outcome::finish(line, store, cache, t)
+    let after = input::receive(line, store, cache, start);
+    outcome::finish(line, store, cache, after)
 }
 
 fn run(store: &mut [u8], cache: &mut [u64]) -> Outcome
     requires { ⌜ capacity (now store) ≡ 2048 ⌝ }
-    ensures { λ r. ⌜ Served (now (store .exit)) r ⌝ }
+    ensures { λ r. ⌜ SessionEnsures (now (store .exit)) r ⌝ }
 {
     let mut line = [0u8; 64];
     let engine = engine::start(store, cache);
     let squeeze = squeeze::none();
     let written = true;
-    let held = Held {
+    let start = SessionState {
         squeeze,
         engine,
         written,
     };
-    session(&mut line, store, cache, held)
+    session(&mut line, store, cache, start)
 }
 
 fn say(s: &[u8]) {
@@ -91,9 +59,9 @@ fn say(s: &[u8]) {
 fn report(o: Outcome) {
     let ending = o.ending;
     match ending {
-        Ending::Whole => {}
-        Ending::Unread => say(b"session: reading failed\n"),
-        Ending::Unwritten => say(b"session: writing failed\n"),
+        Ending::Complete => {}
+        Ending::ReadFailed => say(b"session: reading failed\n"),
+        Ending::WriteFailed => say(b"session: writing failed\n"),
     }
 }
 

@@ -1,20 +1,21 @@
 // How a session ends.
 use crate::feed;
-use crate::feed::Held;
-use crate::input::Turn;
+use crate::feed::SessionState;
+use crate::input::AfterRead;
 use stdin::Next;
 use text::engine::Engine;
 ghost use mathlib.Core.Path.{_≡_};
 ghost use mathlib.Core.Bool.{true};
-ghost use Rattle.session.specs.Feed.{Keeps};
-ghost use Rattle.session.specs.Input.{Closes, Finishes};
+ghost use Rattle.session.specs.Answer.{memory};
+ghost use Rattle.session.specs.Feed.{FeedRequires};
+ghost use Rattle.session.specs.Outcome.{CloseEnsures, FinishEnsures};
 
 // Every line was run and its answer written; reading failed, and the line that it cut was not run; or writing failed,
 // and no line after that was run.
 pub enum Ending {
-    Whole,
-    Unread,
-    Unwritten,
+    Complete,
+    ReadFailed,
+    WriteFailed,
 }
 
 pub struct Outcome {
@@ -23,36 +24,38 @@ pub struct Outcome {
 }
 
 // The input has ended, and with it its last line.
-fn close(line: &mut [u8], store: &mut [u8], cache: &mut [u64], held: Held) -> Outcome
-    requires { ⌜ Keeps (now line) (now cache) (now store) held × (held .written ≡ true) ⌝ }
-    ensures { λ r. ⌜ Closes (now (line .entry)) (now (cache .entry)) (now (store .entry)) held (now (store .exit)) r ⌝ }
+fn close(line: &mut [u8], store: &mut [u8], cache: &mut [u64], state: SessionState) -> Outcome
+    requires { ⌜ FeedRequires (memory (now line) (now cache) (now store)) state × (state .written ≡ true) ⌝ }
+    ensures { λ r. ⌜ CloseEnsures (memory (now (line .entry)) (now (cache .entry)) (now (store .entry))) state
+        (now (store .exit)) r ⌝ }
 {
-    let told = feed::last(line, store, cache, held);
-    let engine = told.engine;
-    if told.written {
-        let ending = Ending::Whole;
+    let result = feed::last(line, store, cache, state);
+    let engine = result.engine;
+    if result.written {
+        let ending = Ending::Complete;
         return Outcome { engine, ending };
     }
-    let ending = Ending::Unwritten;
+    let ending = Ending::WriteFailed;
     Outcome { engine, ending }
 }
 
 // No more is read. Where more could have come, the line that has begun is not run.
-pub fn finish(line: &mut [u8], store: &mut [u8], cache: &mut [u64], t: Turn) -> Outcome
-    requires { ⌜ Keeps (now line) (now cache) (now store) (t .held) ⌝ }
-    ensures { λ r. ⌜ Finishes (now (line .entry)) (now (cache .entry)) (now (store .entry)) t (now (store .exit)) r ⌝ }
+pub fn finish(line: &mut [u8], store: &mut [u8], cache: &mut [u64], after: AfterRead) -> Outcome
+    requires { ⌜ FeedRequires (memory (now line) (now cache) (now store)) (after .state) ⌝ }
+    ensures { λ r. ⌜ FinishEnsures (memory (now (line .entry)) (now (cache .entry)) (now (store .entry))) after
+        (now (store .exit)) r ⌝ }
 {
-    let held = t.held;
-    let next = t.next;
-    let engine = held.engine;
-    let ending = Ending::Unread;
-    if held.written {
+    let state = after.state;
+    let next = after.next;
+    let engine = state.engine;
+    let ending = Ending::ReadFailed;
+    if state.written {
         match next {
-            Next::End => return close(line, store, cache, held),
+            Next::End => return close(line, store, cache, state),
             Next::More => return Outcome { engine, ending },
             Next::Failed => return Outcome { engine, ending },
         }
     }
-    let ending = Ending::Unwritten;
+    let ending = Ending::WriteFailed;
     Outcome { engine, ending }
 }

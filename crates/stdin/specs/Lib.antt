@@ -1,4 +1,5 @@
--- What a read promises
-pub mod Came
--- what the proofs use of it
-pub mod CameLaws
+-- What a reader must believe: what a read promises, and what steps one after the other are
+pub mod Stdin
+pub mod Star
+-- laws of reads
+pub mod StdinLaws

@@ -3,17 +3,17 @@ use libc::STDIN_FILENO;
 ghost use mathlib.Core.Path.{_≡_};
 ghost use lib.ListN.{length};
 ghost use Rattle.io.specs.Counts.{Counts};
-ghost use Rattle.stdin.specs.Came.{nextOf, cameOf, Answers};
+ghost use Rattle.stdin.specs.Stdin.{nextOf, isMore, resultOf, PossibleRead};
 
-// Bytes have come; no more will; or reading failed, and nobody knows what is missing.
+// Bytes came, and more may; the input has ended; or reading failed, and nobody knows what is missing.
 pub enum Next {
     More,
     End,
     Failed,
 }
 
-// So many bytes came, which stand at the front of the buffer.
-pub struct Came {
+// How many bytes came, which stand at the front of the buffer, and what comes next.
+pub struct ReadResult {
     pub count: usize,
     pub next: Next,
 }
@@ -30,20 +30,31 @@ fn next_of(got: isize) -> Next
     Next::End
 }
 
+// Whether to read again.
+pub fn is_more(next: Next) -> bool
+    ensures { λ r. ⌜ r ≡ isMore next ⌝ }
+{
+    match next {
+        Next::More => true,
+        Next::End => false,
+        Next::Failed => false,
+    }
+}
+
 // What `libc::read` answered for this buffer.
-fn came_of(got: isize, buffer: &[u8]) -> Came
+fn result_of(got: isize, buffer: &[u8]) -> ReadResult
     ensures { λ r. ⌜ Counts (r .count) (now (buffer .entry)) ⌝ }
-    ensures { λ r. ⌜ r ≡ cameOf got (length (now (buffer .entry))) ⌝ }
+    ensures { λ r. ⌜ r ≡ resultOf got (length (now (buffer .entry))) ⌝ }
 {
     let count = io::count(got, buffer);
     let next = next_of(got);
-    Came { count, next }
+    ReadResult { count, next }
 }
 
-pub fn read(buffer: &mut [u8]) -> Came
+pub fn read(buffer: &mut [u8]) -> ReadResult
     ensures { λ r. ⌜ Counts (r .count) (now (buffer .exit)) ⌝ }
-    ensures { λ r. ⌜ Answers (length (now (buffer .exit))) r ⌝ }
+    ensures { λ r. ⌜ PossibleRead (length (now (buffer .exit))) r ⌝ }
 {
     let got = libc::read(STDIN_FILENO, buffer);
-    came_of(got, buffer)
+    result_of(got, buffer)
 }

@@ -1,17 +1,42 @@
--- An answer is short.
-use Prim.Native.Nat.{ℕ, _≤_}
+-- Laws of Answer: an answer has at most 16 bytes.
+use mathlib.Core.List.{[], _∷_, _++_}
+use Prim.Native.Nat.{ℕ, _+_, _≤_, _<_}
 use native.Mathlib.Omega.{arith}
-use lib.ListN.{length}
-use Rattle.text.specs.Text.{Bytes, bytes}
-use Rattle.text.specs.Calls.{refusalNumber}
-use Rattle.text.specs.Answers.{answered, printed, Small, Printed}
-use Rattle.text.specs.Print.{Wrote, ended, ended-short}
+use lib.ListN.{length, length-append}
+use Rattle.text.specs.Text.{Bytes, LF, bytes}
+use Rattle.text.specs.Limits.{answerRoom, lastWeight}
+use Rattle.text.specs.Call.{refusalNumber}
+use Rattle.text.specs.Print.{Wrote, decimal}
+use Rattle.text.specs.Answer.{labelledLine, answerLine, printed, SmallAnswer, AnswerWritten}
+use Rattle.text.specs.PrintLaws.{wrote-then, decimal-length, wrote-room}
 use Rattle.text.specs.declared.call.Refusal.{Refusal}
-use Rattle.text.specs.declared.call.Refusal.the-variants as refusal
 use Rattle.text.specs.declared.answer.Answer.{Answer}
 use Rattle.text.specs.declared.answer.Answer.the-variants.{Ok, No, Value, Same, Factor, Differ}
+use Rattle.text.specs.declared.call.Refusal.the-variants as refusal
 
-refusal-small : (r : Refusal) → refusalNumber r ≤ 65536
+module _ (word : Bytes) (n : ℕ) (short : length word < 10) (small : n ≤ lastWeight) where
+  -- it has at most 16 bytes, its LF among them
+  size : length (word ++ decimal n) + 1 ≤ answerRoom
+  size = omega (arith, length-append word (decimal n), decimal-length n 5 (omega arith) (omega arith))
+
+  pub labelled-short : length (labelledLine word n) ≤ answerRoom
+  unfolding labelledLine
+  labelled-short = omega (arith, length-append (word ++ decimal n) (LF ∷ []), size)
+
+  pub labelled-label : (at m : ℕ) → at + answerRoom ≤ m → at + length word + length (decimal n) ≤ m
+  labelled-label at m h = omega (arith, length-append word (decimal n), size)
+
+  pub labelled-room : {l l1 : Bytes} {at e : ℕ} → at + answerRoom ≤ length l → Wrote l at (word ++ decimal n) l1 e
+      → e + 1 ≤ length l1
+  labelled-room h w = wrote-room 1 (omega (arith, size)) w
+
+  pub labelled-wrote : {l l1 l2 : Bytes} {at e r : ℕ} → at + answerRoom ≤ length l → Wrote l at (word ++ decimal n) l1 e
+      → Wrote l1 e (LF ∷ []) l2 r
+      → Wrote l at (labelledLine word n) l2 r
+  unfolding labelledLine
+  labelled-wrote h w v = wrote-then w v (omega (arith, size))
+
+refusal-small : (r : Refusal) → refusalNumber r ≤ lastWeight
 refusal-small refusal.Malformed = omega arith
 refusal-small refusal.Register = omega arith
 refusal-small refusal.Empty = omega arith
@@ -21,14 +46,16 @@ refusal-small refusal.Equal = omega arith
 refusal-small refusal.Depends = omega arith
 refusal-small refusal.Full = omega arith
 
-pub printed-short : (a : Answer) → Small a → length (printed a) ≤ 16
-unfolding printed answered ended
-printed-short (Ok n) h = ended-short (bytes "ok\t") n (omega arith) h
-printed-short (No r) h = ended-short (bytes "no\t") (refusalNumber r) (omega arith) (refusal-small r)
-printed-short (Value w) h = ended-short (bytes "v\t") w (omega arith) h
+pub printed-short : (a : Answer) → SmallAnswer a → length (printed a) ≤ answerRoom
+unfolding printed answerLine labelledLine
+printed-short (Ok n) h = labelled-short (bytes "ok\t") n (omega arith) h
+printed-short (No r) h = labelled-short (bytes "no\t") (refusalNumber r) (omega arith) (refusal-small r)
+printed-short (Value w) h = labelled-short (bytes "v\t") w (omega arith) h
 printed-short Same h = omega arith
-printed-short (Factor f) h = ended-short (bytes "factor\t") f (omega arith) h
+printed-short (Factor f) h = labelled-short (bytes "factor\t") f (omega arith) h
 printed-short Differ h = omega arith
 
-pub printed-wrote : {l : Bytes} {at : ℕ} (a : Answer) {l' : Bytes} {e : ℕ} → Small a → Wrote l at (printed a) l' e → Printed l at a l' e
-printed-wrote a s w = record { exact = w .exact; after = w .after; short = printed-short a s }
+pub answer-written : {l : Bytes} {at : ℕ} (a : Answer) {l' : Bytes} {e : ℕ} → SmallAnswer a
+    → Wrote l at (printed a) l' e
+    → AnswerWritten l at a l' e
+answer-written a s w = record { exact = w .exact; after = w .after; short = printed-short a s }

@@ -1,176 +1,235 @@
--- A gate's calls are one step: they put in what it puts in, and are refused where its set does not fit.
-use mathlib.Core.Path.{_≡_, refl, sym, _∙_}
-use mathlib.Core.Bool.{Bool, true, false, cond}
-use mathlib.Core.List.{List, [], _∷_, _++_, append-assoc}
-use mathlib.Core.Option.{Option, none, some}
-use Prim.Native.Nat.{ℕ, suc, _+_, _*_, _-_, _≤_, _<_}
+-- Laws of Apply: each step as the code takes it.
+use mathlib.Core.Path.{_≡_, subst, ap, refl}
+use mathlib.Core.Bool.{true}
+use mathlib.Core.List.{[], List, _∷_}
+use Prim.Native.Nat.{ℕ, _-_, _<_, _≤_, suc, _+_, _*_}
 use native.Mathlib.Omega.{arith}
-use lib.ListN.{length, getD, set, length-set}
-use lib.Seq.{getD-set-same, getD-set-other, set-set, set-comm, set-getD}
-use borrow.Author.Tests.{leb-false, lt-leb}
-use Rattle.diagram.specs.Tensor.{Tensor, bits}
-use Rattle.diagram.specs.Tally.{Set, return, _>>=_, cont, low, build}
-use Rattle.diagram.specs.Steps.{grown-length}
-use Rattle.diagram.specs.FreeLaws.{free-depends}
-use Rattle.diagram.specs.Gates.{gateTensor}
+use Rattle.diagram.specs.Tensor.{Tensor, Bits, times, bits, indices, indices-count, renameDown}
+use Rattle.diagram.specs.TallyContLaws.{cont-meaning, cont-grows}
+use Rattle.diagram.specs.SumOver.{sumOver}
+use Rattle.diagram.specs.TallyValueLaws.{cont-free, low-free-other}
+use Rattle.diagram.specs.Top.{Free}
+use Rattle.diagram.specs.TallyLowLaws.{low-meaning, low-writes}
+use Rattle.diagram.specs.Tally.{Set, cont, low, _>>=_, Step, return, build}
+use Rattle.diagram.specs.TallyStepLaws.{writes-answer, writes-return, writes-bind, writes-grows}
+use Rattle.diagram.specs.TallyStep.{Writes}
+use Rattle.diagram.specs.Sets.{PrefixOf}
+use Rattle.diagram.specs.SetsLaws.{prefix-trans}
+use Rattle.diagram.specs.Engine.{setOf, tensorOf, Refines}
+use Rattle.diagram.specs.Operation.{OperationRequires, RefinesCached}
+use Rattle.diagram.specs.Lower.{LowerRequires}
+use Rattle.diagram.specs.OperationLaws.{cached-as, cached-at, cached-then, cached-full-more, cached-step}
+use Rattle.diagram.specs.Gate.{gateTensor}
+use Rattle.diagram.specs.MeaningLaws.{valid-more}
+use Rattle.diagram.specs.EngineLaws.{tensor-kept, refines-count}
+use Rattle.text.specs.Limits.{mostQubits}
+use Rattle.text.specs.Names.{Placed}
+use Rattle.text.specs.Qubits.{Rising, AllSet, middles, qubitList, QubitsOf, qubits}
+use Rattle.text.specs.Apply.{AllFree, renameStep, renamedTensor, contractStep, Renamable, applyStep}
+use Rattle.text.specs.QubitsLaws.{middles-set, gate-rising}
+use Rattle.diagram.specs.declared.node.Edge.{Edge}
+use Rattle.diagram.specs.declared.make.State.{State}
+use Rattle.diagram.specs.declared.join.Outcome.{Outcome}
+use Rattle.text.specs.declared.qubits.Qubits.{Qubits}
+use Rattle.text.specs.declared.qubits.Qubits.the-variants.{One, Two}
 use Rattle.diagram.specs.declared.gate.Gate.{Gate}
-use Rattle.text.specs.Session.{Capacity, most, unlimited, fits, Tally, answer, accept, refuse, settle, holding, register}
-use Rattle.text.specs.VerdictRun.{qubits, middles, lows, gateCalls, Numbered, atLine, Outcome, refused, onward, perform, judged}
-use Rattle.text.specs.VerdictRunLaws.{Rising, AllFree, at-line-append}
-use Rattle.text.specs.Apply.{renames, contracts, applies, tidied, low-free, cont-all-free, renames-grows, contracts-grows}
-use Rattle.text.specs.declared.call.Refusal.the-variants as refusal
-use Rattle.text.specs.declared.call.Call.the-variants as call
-use Rattle.text.specs.declared.ruling.Ruling.the-variants.{No}
-use Rattle.text.specs.declared.verdict.Fault.the-variants.{Full}
+use Rattle.diagram.specs.declared.join.Outcome.the-variants as outcome
 
--- a call that settles
+-- contraction over k leaves nothing that depends on k; renaming another index keeps independence
 
-unfoldable settled : {d : ℕ} → ℕ → Tensor d × Set d → Tally d → Tally d
-settled r p t = record { nodes = p .1; registers = set (t .registers) r (some (p .0)) }
+free-contracted : {d : ℕ} (k : ℕ) (S : Bits) (A B : Tensor d) → k < d → S k ≡ true → Free k (sumOver S (times A B))
+free-contracted k S A B p e = subst (Free k) (cont-meaning A B S []) (cont-free [] k A B S p e)
 
-settle-on : {d : ℕ} (c : Capacity) (line r : ℕ) (p : Tensor d × Set d) (t : Tally d) (f : Tally d → Outcome d)
-    → onward line (settle c r p t) f ≡ cond (fits c (length (p .1))) (f (settled r p t)) (refused line refusal.Full)
-unfolding settled settle
-settle-on c line r p t f = go (fits c (length (p .1)))
-  where
-    go : (b : Bool) → onward line (cond b (accept (settled r p t)) (refuse refusal.Full t)) f ≡ cond b (f (settled r p t)) (refused line refusal.Full)
-    go true = unfold onward accept in refl
-    go false = unfold onward refuse in refl
+free-renamed : {d : ℕ} (i k : ℕ) (A : Tensor d) → 1 ≤ k → k < d → Free (k - 1) A → (i ≡ k → ⊥) → (i ≡ k - 1 → ⊥)
+    → Free i A → Free i (renameDown k A)
+free-renamed i k A p q f n m g = subst (Free i) (low-meaning k A p q f []) (low-free-other [] k A p q f i n m g)
 
-fits-less : (c : Capacity) (m n : ℕ) → m ≤ n → fits c m ≡ false → fits c n ≡ false
-fits-less (most k) m n l e = let h = leb-false m k e in lt-leb n k (omega arith)
-fits-less unlimited m n l e = e
+pub all-free-renamed : {d : ℕ} (least q : ℕ) (qs : List ℕ) (A : Tensor d) → Rising d least qs → q < least
+    → 3 * q + 2 < d → Free (3 * q + 1) A → AllFree qs A
+    → AllFree qs (renameDown (3 * q + 2) A)
+all-free-renamed least q [] A r p l g f = tt
+all-free-renamed least q (x ∷ qs) A r p l g f =
+    let e : 3 * q + 2 - 1 ≡ 3 * q + 1 = omega arith in (
+      free-renamed (3 * x + 1) (3 * q + 2) A (omega arith) l (rw e g) (λ z. omega arith) (λ z. omega arith) (f .0),
+      all-free-renamed (suc x) q qs A (r .2) (omega arith) l g (f .1),
+    )
 
--- two such calls are the second, whose set has grown from the first's
-settle-then : {d : ℕ} (c : Capacity) (line a r : ℕ) (p q : Tensor d × Set d) (t u : Tally d) (f g : Tally d → Outcome d) → length (p .1) ≤ length (q .1)
-    → (fits c (length (p .1)) ≡ true → f (settled a p t) ≡ onward line (settle c r q u) g) → onward line (settle c a p t) f ≡ onward line (settle c r q u) g
-settle-then c line a r p q t u f g l h = settle-on c line a p t f ∙ go (fits c (length (p .1))) refl
-  where
-    go : (b : Bool) → fits c (length (p .1)) ≡ b → cond b (f (settled a p t)) (refused line refusal.Full) ≡ onward line (settle c r q u) g
-    go true e = h e
-    go false e = sym (settle-on c line r q u g ∙ rw (fits-less c (length (p .1)) (length (q .1)) l e))
+pub all-free : {d : ℕ} (least : ℕ) (qs : List ℕ) (S : Bits) (A B : Tensor d) → Rising d least qs → AllSet qs S
+    → AllFree qs (sumOver S (times A B))
+all-free least [] S A B r s = tt
+all-free least (q ∷ qs) S A B r s =
+    (free-contracted (3 * q + 1) S A B (omega (arith, r .1)) (s .0), all-free (suc q) qs S A B (r .2) (s .1))
 
--- the same register settled twice has what it was settled to last
-settle-again : {d : ℕ} (c : Capacity) (line r : ℕ) (p q : Tensor d × Set d) (t : Tally d) (f : Tally d → Outcome d)
-    → onward line (settle c r q (settled r p t)) f ≡ onward line (settle c r q t) f
-unfolding settled
-settle-again c line r p q t f = settle-on c line r q (settled r p t) f ∙ rw set-set (sym (settle-on c line r q t f))
+-- Contraction leaves nothing that depends on a middle, and renaming one qubit's fresh index keeps that for the others.
+-- So what these steps answer and put in does not depend on the set.
 
--- the calls `low`
+pub cont-all-free : {d : ℕ} (qs : List ℕ) (A T : Tensor d) (s : Set d) → Rising d 0 qs
+    → AllFree qs (cont A T (bits (middles qs)) s .0)
+cont-all-free {d} qs A T s u =
+    rw (cont-meaning A T (bits (middles qs)) s) (all-free 0 qs (bits (middles qs)) A T u (middles-set d 0 qs u))
 
-lows-perform : {d : ℕ} (c : Capacity) (line r least : ℕ) (qs : List ℕ) (T : Tensor d) (t : Tally d) (more : List Numbered)
-    → Rising d least qs → AllFree qs T → r < length (t .registers) → getD (t .registers) r none ≡ some T → fits c (length (t .nodes)) ≡ true
-    → perform c (atLine line (lows r qs) ++ more) t ≡ onward line (settle c r (renames qs T (t .nodes)) t) (perform c more)
-unfolding perform atLine lows renames return _>>=_ answer register holding settled
-lows-perform c line r least [] T t more u f i h e =
-    let same : set (t .registers) r (some T) ≡ t .registers = rw (← h) (set-getD (t .registers) r none) in
-    sym (settle-on c line r (T, t .nodes) t (perform c more) ∙ rw (e, same))
-lows-perform c line r least (q ∷ qs) T t more u f i h e =
-    let k = 3 * q + 2 in
-    let n : k - 1 ≡ 3 * q + 1 = omega arith in
-    let p = low k T (t .nodes) in
-    let free = low-free least q qs T u f (t .nodes) in
-    let end = renames qs (p .0) (p .1) in
-    rw (h, n, free-depends (3 * q + 1) T (f .0))
-    (settle-then c line r r p end t t (perform c (atLine line (lows r qs) ++ more)) (perform c more) (grown-length (renames-grows (suc q) qs (p .0) (u .2) free (p .1)))
-    (λ e. lows-perform c line r (suc q) qs (p .0) (settled r p t) more (u .2) free (rw length-set i) (getD-set-same (t .registers) r (some (p .0)) none i) e
-    ∙ settle-again c line r p end t (perform c more)))
+module _ {d : ℕ} (least q : ℕ) (qs : List ℕ) (T : Tensor d) (u : Rising d least (q ∷ qs)) (f : AllFree (q ∷ qs) T) where
+  low-known : Writes (renameDown (3 * q + 2) T) (low (3 * q + 2) T)
+  low-known =
+      let e : 3 * q + 2 - 1 ≡ 3 * q + 1 = omega arith in low-writes (3 * q + 2) (omega arith) (u .1) T (rw e (f .0))
 
--- `drop 2` and `collect`, once register r is settled
+  lowered-free : AllFree qs (renameDown (3 * q + 2) T)
+  lowered-free = all-free-renamed (suc q) q qs T (u .2) (omega arith) (u .1) (f .0) (f .1)
 
-abbrev dropped : ℕ → List Numbered → List Numbered
-dropped line more = (line, call.Drop 2) ∷ (line, call.Collect) ∷ more
+  pub low-free : (s : Set d) → AllFree qs (low (3 * q + 2) T s .0)
+  low-free s = rw (writes-answer low-known s) lowered-free
 
-drop-performs : {d : ℕ} (c : Capacity) (line : ℕ) (A : Tensor d) (t : Tally d) (more : List Numbered) → getD (t .registers) 2 none ≡ some A
-    → perform c (dropped line more) t ≡ perform c more (tidied t)
-unfolding perform onward answer register holding accept tidied
-drop-performs c line A t more h = rw h
+pub rename-step-writes : {d : ℕ} (least : ℕ) (qs : List ℕ) (T : Tensor d) → Rising d least qs → AllFree qs T
+    → Writes (renamedTensor qs T) (renameStep qs T)
+unfolding renameStep renamedTensor
+rename-step-writes least [] T u f = writes-return T
+rename-step-writes least (q ∷ qs) T u f =
+    writes-bind (renameStep qs) (low-known least q qs T u f) (rename-step-writes (suc q) qs (renameDown (3 * q + 2) T) (u .2) (lowered-free least q qs T u f))
 
-settle-drop : {d : ℕ} (c : Capacity) (line r : ℕ) (A : Tensor d) (p : Tensor d × Set d) (t : Tally d) (more : List Numbered)
-    → r < 2 → getD (t .registers) 2 none ≡ some A
-    → onward line (settle c r p t) (perform c (dropped line more))
-    ≡ onward line (settle c r p t) (λ t. perform c more (tidied t))
-unfolding settled
-settle-drop c line r A p t more small h =
-    let kept = getD-set-other (t .registers) r 2 (some (p .0)) none (λ e. omega arith) ∙ h in
-    settle-on c line r p t _ ∙ rw (drop-performs c line A (settled r p t) more kept) (sym (settle-on c line r p t _))
+pub rename-step-grows : {d : ℕ} (least : ℕ) (qs : List ℕ) (T : Tensor d) → Rising d least qs → AllFree qs T
+    → (s : Set d)
+    → PrefixOf s (renameStep qs T s .1)
+rename-step-grows least qs T u f s = writes-grows (rename-step-writes least qs T u f) s
 
--- it does not matter then what 2 was settled to
-tidied-settled : {d : ℕ} (c : Capacity) (line r : ℕ) (p q : Tensor d × Set d) (t : Tally d) (more : List Numbered) → r < 2
-    → onward line (settle c r q (settled 2 p t)) (λ t. perform c more (tidied t)) ≡ onward line (settle c r q t) (λ t. perform c more (tidied t))
-unfolding settled tidied
-tidied-settled c line r p q t more small =
-    let A = some (p .0) in
-    let U = some (q .0) in
-    let e : set (set (set (t .registers) 2 A) r U) 2 none ≡ set (set (t .registers) r U) 2 none =
-    rw (set-comm (t .registers) 2 r A U (λ e. omega arith)) (set-set (set (t .registers) r U) 2 A none) in
-    settle-on c line r q (settled 2 p t) _ ∙ rw e (sym (settle-on c line r q t _))
+pub contract-step-grows : {d : ℕ} (qs : List ℕ) (T A : Tensor d) → Rising d 0 qs → (s : Set d)
+    → PrefixOf s (contractStep qs T A s .1)
+unfolding contractStep _>>=_
+contract-step-grows qs T A u s =
+    prefix-trans (cont-grows A T (bits (middles qs)) s) (rename-step-grows 0 qs (cont A T (bits (middles qs)) s .0) u (cont-all-free qs A T s u) _)
 
--- the calls after `gate`, whose tensor is A
+-- the tensor of a step's edge is what the step answers
+answered : {c' s s' : List ℕ} {st t : State} {f : Step indices} {e : Edge}
+    → RefinesCached c' s s' st f (outcome.Edge e t)
+    → f (setOf s st) .0 ≡ tensorOf s' t e
+answered w = ap (λ p. p .0) (w .step .is)
 
-contracts-perform : {d : ℕ} (c : Capacity) (line r : ℕ) (qs : List ℕ) (T A : Tensor d) (t : Tally d) (more : List Numbered)
-    → r < 2 → length (t .registers) ≡ 16 → getD (t .registers) r none ≡ some T → getD (t .registers) 2 none ≡ some A → Rising d 0 qs
-    → perform c ((line, call.Cont r 2 r (middles qs)) ∷ (atLine line (lows r qs) ++ dropped line more)) t
-    ≡ onward line (settle c r (contracts qs T A (t .nodes)) t) (λ t. perform c more (tidied t))
-unfolding perform answer register holding contracts _>>=_ settled
-contracts-perform c line r qs T A t more small sixteen holds gate u =
-    let p = cont A T (bits (middles qs)) (t .nodes) in
-    let end = renames qs (p .0) (p .1) in
-    let free = cont-all-free qs A T (t .nodes) u in
-    let rest = dropped line more in
-    let inside : r < length (t .registers) = omega arith in
-    rw (gate, holds)
-    (settle-then c line r r p end t t (perform c (atLine line (lows r qs) ++ rest)) (λ t. perform c more (tidied t)) (grown-length (renames-grows 0 qs (p .0) u free (p .1)))
-    (λ e. lows-perform c line r 0 qs (p .0) (settled r p t) rest u free (rw length-set inside) (getD-set-same (t .registers) r (some (p .0)) none inside) e
-    ∙ settle-again c line r p end t (perform c rest)
-    ∙ settle-drop c line r A end t more small gate))
+worked-ready : {c' s s' : List ℕ} {st t : State} {f : Step indices} {e : Edge}
+    → RefinesCached c' s s' st f (outcome.Edge e t)
+    → OperationRequires c' s' t e e
+worked-ready w = record { sound = w .step .sound; left = w .step .valid; right = w .step .valid; cache = w .cache }
 
-gate-calls : (line r : ℕ) (g : Gate) (more : List Numbered) → atLine line (gateCalls r g) ++ more
-    ≡ (line, call.Gate 2 g) ∷ (line, call.Cont r 2 r (middles (qubits g)))
-    ∷ (atLine line (lows r (qubits g)) ++ dropped line more)
-unfolding gateCalls atLine
-gate-calls line r g more = rw (at-line-append line (lows r (qubits g)), append-assoc)
+-- one fresh index
 
--- where the list's register holds T
-pub gate-performs : {d : ℕ} (c : Capacity) (line r : ℕ) (g : Gate) (T : Tensor d) (t : Tally d) (more : List Numbered)
-    → r < 2 → length (t .registers) ≡ 16 → getD (t .registers) r none ≡ some T → Rising d 0 (qubits g)
-    → perform c (atLine line (gateCalls r g) ++ more) t ≡ onward line (settle c r (applies g T (t .nodes)) t) (λ t. perform c more (tidied t))
-unfolding perform answer applies _>>=_ settled
-gate-performs {d} c line r g T t more small sixteen holds rising =
-    let p = build (gateTensor d g) (t .nodes) in
-    let end = contracts (qubits g) T (p .0) (p .1) in
-    let l = t .registers in
-    let A = some (p .0) in
-    rw (gate-calls line r g more)
-    (settle-then c line 2 r p end t t _ (λ t. perform c more (tidied t)) (grown-length (contracts-grows (qubits g) T (p .0) rising (p .1)))
-    (λ e. contracts-perform c line r (qubits g) T (p .0) (settled 2 p t) more small (length-set l 2 A ∙ sixteen)
-    (getD-set-other l 2 r A none (λ e. omega arith) ∙ holds) (getD-set-same l 2 A none (omega arith)) rising
-    ∙ tidied-settled c line r p end t more small))
+pub rename-allowed : {s : List ℕ} {st : State} {a : Edge} {q : ℕ} → q < mostQubits → Free (3 * q + 1) (tensorOf s st a)
+    → LowerRequires s st a (3 * q + 2)
+rename-allowed {q = q} p f =
+    let e : 3 * q + 2 - 1 ≡ 3 * q + 1 = omega arith in record { first = omega arith; last = omega arith; free = rw e f }
 
--- where it is empty, the gate is refused
+-- one qubit's
 
-cont-empty : {d : ℕ} (c : Capacity) (line r m : ℕ) (t : Tally d) (more : List Numbered) → getD (t .registers) r none ≡ none
-    → judged c (perform c ((line, call.Cont r 2 r m) ∷ more) t) ≡ No Full line
-unfolding perform answer register holding
-cont-empty {d} c line r m t more h = rw h (go (getD (t .registers) 2 none))
-  where
-    go : (o : Option (Tensor d)) → judged c (onward line (holding o t (λ A. refuse refusal.Empty t)) (perform c more)) ≡ No Full line
-    go none = unfold refuse onward judged in refl
-    go (some A) = unfold refuse onward judged in refl
+pub free-one : {q : ℕ} {x : Qubits} {T : Tensor indices} → x ≡ One q → Renamable (qubitList x) T → Free (3 * q + 1) T
+free-one {T = T} e h = subst (λ x. Renamable (qubitList x) T) e h .free .0
 
-judged-settle : {d : ℕ} (c : Capacity) (line r : ℕ) (p : Tensor d × Set d) (t : Tally d) (f : Tally d → Outcome d) → judged c (f (settled r p t)) ≡ No Full line
-    → judged c (onward line (settle c r p t) f) ≡ No Full line
-judged-settle c line r p t f h = rw (settle-on c line r p t f) (go (fits c (length (p .1))))
-  where
-    go : (b : Bool) → judged c (cond b (f (settled r p t)) (refused line refusal.Full)) ≡ No Full line
-    go true = h
-    go false = unfold judged in refl
+pub renamed-one : (c' s s' : List ℕ) (st : State) (T : Tensor indices) {q : ℕ} {x : Qubits} (r : Outcome) → x ≡ One q
+    → RefinesCached c' s s' st (low (3 * q + 2) T) r
+    → RefinesCached c' s s' st (renameStep (qubitList x) T) r
+unfolding renameStep _>>=_ return
+renamed-one c' s s' st T {q} r e w = rw e (cached-as c' s s' st (renameStep (q ∷ []) T) (low (3 * q + 2) T) r refl w)
 
-pub gate-empty : {d : ℕ} (c : Capacity) (line r : ℕ) (g : Gate) (t : Tally d) (more : List Numbered)
-    → r < 2 → getD (t .registers) r none ≡ none → judged c (perform c (atLine line (gateCalls r g) ++ more) t) ≡ No Full line
-unfolding perform answer settled
-gate-empty {d} c line r g t more small empty =
-    let p = build (gateTensor d g) (t .nodes) in
-    let rest = atLine line (lows r (qubits g)) ++ dropped line more in
-    let still = getD-set-other (t .registers) 2 r (some (p .0)) none (λ e. omega arith) ∙ empty in
-    rw (gate-calls line r g more) (judged-settle c line 2 p t _ (cont-empty c line r (middles (qubits g)) (settled 2 p t) rest still))
+-- two qubits'
+
+module _ {p q : ℕ} {x : Qubits} {T : Tensor indices} (e : x ≡ Two p q) (h : Renamable (qubitList x) T) where
+  two : Renamable (p ∷ q ∷ []) T
+  two = subst (λ x. Renamable (qubitList x) T) e h
+
+  pub free-first : Free (3 * p + 1) T
+  free-first = two .free .0
+
+  -- the second is as free of its middle after the first was renamed
+  second-free : (z : Set indices) → AllFree (q ∷ []) (low (3 * p + 2) T z .0)
+  second-free = low-free 0 p (q ∷ []) T (two .rising) (two .free)
+
+  module _ (c₁ s s₁ : List ℕ) (st : State) (m : Outcome) (w : RefinesCached c₁ s s₁ st (low (3 * p + 2) T) m) where
+    pub renamed-full : m ≡ outcome.Full → RefinesCached c₁ s s₁ st (renameStep (qubitList x) T) outcome.Full
+    unfolding renameStep _>>=_
+    renamed-full f =
+        rw e (cached-full-more (renameStep (p ∷ q ∷ []) T) (cached-at (low (3 * p + 2) T) m w f)
+        (rename-step-grows (suc p) (q ∷ []) (low (3 * p + 2) T (setOf s st) .0) (two .rising .2) (second-free (setOf s st)) _))
+
+    module _ {y : Edge} {t : State} (f : m ≡ outcome.Edge y t) where
+      first : RefinesCached c₁ s s₁ st (low (3 * p + 2) T) (outcome.Edge y t)
+      first = cached-at (low (3 * p + 2) T) m w f
+
+      pub ready-second : OperationRequires c₁ s₁ t y y
+      ready-second = worked-ready first
+
+      pub free-second : Free (3 * q + 1) (tensorOf s₁ t y)
+      free-second = rw (← answered first) (second-free (setOf s st) .0)
+
+      pub renamed-two : (c₂ s₂ : List ℕ) (r : Outcome) → RefinesCached c₂ s₁ s₂ t (low (3 * q + 2) (tensorOf s₁ t y)) r
+          → RefinesCached c₂ s s₂ st (renameStep (qubitList x) T) r
+      unfolding renameStep _>>=_ return
+      renamed-two c₂ s₂ r v =
+          rw e (cached-then c₂ s₂ (renameStep (p ∷ q ∷ []) T) (low (3 * q + 2) (tensorOf s₁ t y)) r first (rw (first .step .is)) v)
+
+-- the contraction, and then the fresh indices
+
+module _ {m : ℕ} (x : Qubits) (k : m ≡ middles (qubitList x)) (u : Rising indices 0 (qubitList x))
+    (A T : Tensor indices) where
+  over : bits m ≡ bits (middles (qubitList x))
+  over = ap bits k
+
+  -- what is left depends on no middle
+  loose : (z : Set indices) → Renamable (qubitList x) (cont A T (bits m) z .0)
+  loose z = rw over record { rising = u; free = cont-all-free (qubitList x) A T z u }
+
+  module _ (c₁ s s₁ : List ℕ) (st : State) (n : Outcome) (w : RefinesCached c₁ s s₁ st (cont A T (bits m)) n) where
+    pub contracted-full : n ≡ outcome.Full → RefinesCached c₁ s s₁ st (contractStep (qubitList x) T A) outcome.Full
+    unfolding contractStep _>>=_
+    contracted-full f =
+        cached-full-more (contractStep (qubitList x) T A) (cached-at (cont A T (bits m)) n w f)
+        (rw over (rename-step-grows 0 (qubitList x) _ u (cont-all-free (qubitList x) A T (setOf s st) u) _))
+
+    module _ {y : Edge} {t : State} (f : n ≡ outcome.Edge y t) where
+      met : RefinesCached c₁ s s₁ st (cont A T (bits m)) (outcome.Edge y t)
+      met = cached-at (cont A T (bits m)) n w f
+
+      pub contracted-ready : OperationRequires c₁ s₁ t y y
+      contracted-ready = worked-ready met
+
+      pub contracted-renamable : Renamable (qubitList x) (tensorOf s₁ t y)
+      contracted-renamable = subst (Renamable (qubitList x)) (answered met) (loose (setOf s st))
+
+      pub contracted-works : (c₂ s₂ : List ℕ) (r : Outcome)
+          → RefinesCached c₂ s₁ s₂ t (renameStep (qubitList x) (tensorOf s₁ t y)) r
+          → RefinesCached c₂ s s₂ st (contractStep (qubitList x) T A) r
+      unfolding contractStep _>>=_
+      contracted-works c₂ s₂ r v =
+          cached-then c₂ s₂ (contractStep (qubitList x) T A) (renameStep (qubitList x) (tensorOf s₁ t y)) r met (rw (← over, met .step .is)) v
+
+-- the gate's tensor, and then the others
+
+pub apply-rising : (g : Gate) (qs : Qubits) → Placed mostQubits g → QubitsOf g qs → Rising indices 0 (qubitList qs)
+apply-rising g qs p o = rw (o .is) (gate-rising indices mostQubits g (omega (arith, indices-count)) p)
+
+module _ {c s : List ℕ} {st : State} {x : Edge} (h : OperationRequires c s st x x) {g : Gate} (p : Placed mostQubits g)
+    {qs : Qubits} (o : QubitsOf g qs) (s₁ : List ℕ) (n : Outcome)
+    (w : Refines s s₁ st (build (gateTensor indices g)) n) where
+  built : RefinesCached c s s₁ st (build (gateTensor indices g)) n
+  built = cached-step s₁ (build (gateTensor indices g)) n h w
+
+  pub apply-full : n ≡ outcome.Full → RefinesCached c s s₁ st (applyStep g (tensorOf s st x)) outcome.Full
+  unfolding applyStep _>>=_
+  apply-full f =
+      cached-full-more (applyStep g (tensorOf s st x)) (cached-at (build (gateTensor indices g)) n built f)
+      (contract-step-grows (qubits g) (tensorOf s st x) _ (gate-rising indices mostQubits g (omega (arith, indices-count)) p) _)
+
+  module _ {a : Edge} {t : State} (f : n ≡ outcome.Edge a t) where
+    built-done : RefinesCached c s s₁ st (build (gateTensor indices g)) (outcome.Edge a t)
+    built-done = cached-at (build (gateTensor indices g)) n built f
+
+    pub apply-ready : OperationRequires c s₁ t a x
+    apply-ready = record {
+      sound = built-done .step .sound;
+      left = built-done .step .valid;
+      right = valid-more (t .count) (refines-count (built-done .step)) (h .left);
+      cache = built-done .cache;
+    }
+
+    pub apply-works : (c₂ s₂ : List ℕ) (r : Outcome)
+        → RefinesCached c₂ s₁ s₂ t (contractStep (qubitList qs) (tensorOf s₁ t x) (tensorOf s₁ t a)) r
+        → RefinesCached c₂ s s₂ st (applyStep g (tensorOf s st x)) r
+    unfolding applyStep _>>=_
+    apply-works c₂ s₂ r v =
+        cached-then c₂ s₂ (applyStep g (tensorOf s st x)) (contractStep (qubitList qs) (tensorOf s₁ t x) (tensorOf s₁ t a)) r built-done
+        (rw (built-done .step .is, o .is, tensor-kept s s₁ st t (built-done .step .grown) (h .left))) v

@@ -1,206 +1,223 @@
--- A verdict text checked line by line, with the numbers of lines alone; and read again, line by line.
-use mathlib.Core.Path.{_≡_, refl, ap, _∙_}
-use mathlib.Core.Bool.{Bool, true, false, cond}
+-- Verdict texts (document 01, "Verdicts"): "Text, split, parted and answered as in sessions".
+use mathlib.Core.Bool.{cond, _&&_, Bool, not}
 use mathlib.Core.List.{List, [], _∷_}
-use Prim.Native.Nat.{ℕ, suc, _+_, _≤_, _<_}
-use native.Mathlib.Numerals.{add-one}
-use native.Mathlib.Omega.{arith}
-use lib.Dec.{eqb}
-use borrow.Author.Tests.{eq-eqb, ne-eqb}
+use mathlib.Core.Path.{_≡_}
+use Prim.Native.Nat.{ℕ, _+_, _≤_, _<_}
+use lib.Dec.{leb, ltb, eqb}
 use lib.ListN.{length, drop}
-use Rattle.text.specs.Text.{Bytes, LF, lines}
-use Rattle.text.specs.Split.{part, Ends, lines-first, lines-none}
-use Rattle.text.specs.Verdict.{
-  itemOf,
-  Reading,
-  lists,
-  fault,
-  withFirst,
-  withSecond,
-  firstItem,
-  firstList,
-  secondItem,
-  secondList,
-  afterHeader,
-  readLines,
-  readText,
-  checkedOf,
-  ItemRead,
-  RangedHeader,
-  HeaderRead,
-  RangedCheck,
-  CheckedRead,
-}
-use Rattle.text.specs.declared.verdict.Fault.{Fault}
-use Rattle.text.specs.declared.verdict.Fault.the-variants.{Header as BadHeader, Parting}
-use Rattle.text.specs.declared.verdict.Header.{Header}
-use Rattle.text.specs.declared.verdict.Header.the-variants.{Of, Bad}
-use Rattle.text.specs.declared.verdict.Item.{Item}
-use Rattle.text.specs.declared.verdict.Item.the-variants as item
-use Rattle.text.specs.declared.verdict.Next.{Next}
-use Rattle.text.specs.declared.verdict.Next.the-variants.{On, Stop}
-use Rattle.text.specs.declared.verdict.Checked.{Checked}
-use Rattle.text.specs.declared.verdict.Checked.the-variants.{Good, Faulty}
+use Rattle.text.specs.Text.{Bytes, bytes, sameBytes, lines, fields, LF}
+use Rattle.text.specs.Limits.{mostQubits, mostDigits}
+use Rattle.text.specs.Args.{oneNumber, numbers, oneOrTwoNumbers}
+use Rattle.text.specs.Names.{known, oneQubit, twoQubits, Placed}
+use Rattle.text.specs.Split.{part, Ends}
+use Rattle.text.specs.declared.args.Args.{Args}
+use Rattle.text.specs.declared.check.Header.{Header}
+use Rattle.text.specs.declared.check.Header.the-variants.{Of, Bad}
+use Rattle.text.specs.declared.args.Args.the-variants.{None}
+use Rattle.text.specs.declared.check.Fault.{Fault}
+use Rattle.text.specs.declared.check.Item.{Item}
+use Rattle.text.specs.declared.names.Named.{Named}
+use Rattle.text.specs.declared.check.Fault.the-variants.{Line, Qubit, Equal, Parting, Header as BadHeader}
 use Rattle.diagram.specs.declared.gate.Gate.{Gate}
+use Rattle.text.specs.declared.check.Checked.{Checked}
+use Rattle.text.specs.declared.check.Checked.the-variants.{Good, Faulty}
+use Rattle.text.specs.declared.check.Next.{Next}
+use Rattle.text.specs.declared.check.Next.the-variants.{On, Stop}
+use Rattle.text.specs.declared.check.Item.the-variants as item
+
+-- "`lines` and n (1 to 8)": the first line
+unfoldable pub headerNumbers : Args → Header
+headerNumbers = oneNumber Bad (λ n. cond (leb 1 n && leb n mostQubits) (Of n) Bad)
+
+unfoldable pub headerFields : List Bytes → Header
+headerFields [] = Bad
+headerFields (word ∷ more) = cond (sameBytes word (bytes "lines")) (headerNumbers (numbers mostDigits None more)) Bad
+
+unfoldable pub headerOf : Bytes → Header
+headerOf line = headerFields (fields line)
+
+-- the item, if a test holds; else a fault
+unfoldable pub ensured : Bool → Fault → Item → Item
+ensured test fault next = cond test next (item.Faulty fault)
+
+-- "within a gate line 11 (unknown name, ..), 12 (qubit not below n), 13 (qubits equal)"
+abbrev pub oneQubitItem : ℕ → ℕ → Named → Item
+oneQubitItem n q name = known (item.Faulty Line) name (λ g. ensured (ltb q n) Qubit (item.Gate g))
+
+abbrev pub twoQubitItem : ℕ → ℕ → ℕ → Named → Item
+twoQubitItem n p q name =
+    known (item.Faulty Line) name
+    (λ g. ensured (ltb p n) Qubit (ensured (ltb q n) Qubit (ensured (not (eqb p q)) Equal (item.Gate g))))
+
+-- ".. wrong count of fields .."
+unfoldable pub gateItemOf : ℕ → Bytes → Args → Item
+gateItemOf n name =
+    oneOrTwoNumbers (item.Faulty Line)
+    (λ q. oneQubitItem n q (oneQubit name q))
+    (λ p q. twoQubitItem n p q (twoQubits name p q))
+
+-- "gate lines, name then qubits as single digits": numbers of 1 to 1 digits
+unfoldable pub gateItemFields : ℕ → List Bytes → Item
+gateItemFields n [] = item.Faulty Line
+gateItemFields n (name ∷ qubits) = gateItemOf n name (numbers 1 None qubits)
+
+-- a line after the first: "a line `=`", or a gate line
+unfoldable pub itemOf : ℕ → Bytes → Item
+itemOf n line = cond (sameBytes line (bytes "=")) item.Parting (gateItemFields n (fields line))
+
+-- What a text says: two lists of gates on n qubits, or its first fault and the line of it, "line counted from 1".
+pub data Reading : Type 0 where
+  lists : ℕ → List Gate → List Gate → Reading
+  fault : Fault → ℕ → Reading
+
+unfoldable pub withFirst : Gate → Reading → Reading
+withFirst g (lists n gs hs) = lists n (g ∷ gs) hs
+withFirst g (fault f at) = fault f at
+
+unfoldable pub withSecond : Gate → Reading → Reading
+withSecond g (lists n gs hs) = lists n gs (g ∷ hs)
+withSecond g (fault f at) = fault f at
+
+-- a line of the second list, and what follows it: "14 a second `=`, at its own line"
+unfoldable pub secondItem : Item → ℕ → Reading → Reading
+secondItem (item.Gate g) at more = withSecond g more
+secondItem item.Parting at more = fault Parting at
+secondItem (item.Faulty f) at more = fault f at
+
+-- the lines after `=`, the first of which has the number `at`
+unfoldable pub secondList : ℕ → ℕ → List Bytes → Reading
+secondList n at [] = lists n [] []
+secondList n at (line ∷ ls) = secondItem (itemOf n line) at (secondList n (at + 1) ls)
+
+-- a line of the first list, and what follows it as part of the same list, or after an `=`
+unfoldable pub firstItem : Item → ℕ → Reading → Reading → Reading
+firstItem (item.Gate g) at more after = withFirst g more
+firstItem item.Parting at more after = after
+firstItem (item.Faulty f) at more after = fault f at
+
+-- the lines before `=`: "or no `=`, at the line after the last". "Either list may be empty."
+unfoldable pub firstList : ℕ → ℕ → List Bytes → Reading
+firstList n at [] = fault Parting at
+firstList n at (line ∷ ls) = firstItem (itemOf n line) at (firstList n (at + 1) ls) (secondList n (at + 1) ls)
+
+unfoldable pub afterHeader : Header → List Bytes → Reading
+afterHeader Bad ls = fault BadHeader 1
+afterHeader (Of n) ls = firstList n 2 ls
+
+-- "Empty text is 10 at 1."
+unfoldable pub readLines : List Bytes → Reading
+readLines [] = fault BadHeader 1
+readLines (line ∷ ls) = afterHeader (headerOf line) ls
+
+-- "All lines are read before any gate runs; the first faulty line decides."
+unfoldable pub readText : Bytes → Reading
+readText text = readLines (lines text)
+
+-- the same without the gates: n, the line of `=` and the number of lines; or the fault and its line
+abbrev pub checkedOf : Reading → Checked
+checkedOf (lists n gs hs) = Good n (2 + length gs) (2 + length gs + length hs)
+checkedOf (fault f at) = Faulty f at
+
+-- What the code promises.
+
+-- a first line is read: its n is 1 to 8
+abbrev pub RangedHeader : Header → Type 0
+RangedHeader (Of n) = (1 ≤ n) × (n ≤ mostQubits)
+RangedHeader Bad = Unit
+
+pub record HeaderRead (line : Bytes) (r : Header) : Type 0 where
+  pub header : r ≡ headerOf line
+  pub ranged : RangedHeader r
+
+-- another line is read: its gate is on qubits below n
+abbrev pub PlacedItem : ℕ → Item → Type 0
+PlacedItem n (item.Gate g) = Placed n g
+PlacedItem n item.Parting = Unit
+PlacedItem n (item.Faulty f) = Unit
+
+pub record ItemRead (n : ℕ) (line : Bytes) (r : Item) : Type 0 where
+  pub item : r ≡ itemOf n line
+  pub placed : PlacedItem n r
+
+-- a good gate line is read again
+abbrev pub IsGate : Item → Type 0
+IsGate (item.Gate g) = Unit
+IsGate item.Parting = ⊥
+IsGate (item.Faulty f) = ⊥
+
+pub record GateRead (n : ℕ) (line : Bytes) (g : Gate) : Type 0 where
+  pub gate : itemOf n line ≡ item.Gate g
+  pub placed : Placed n g
+
+-- a whole text is read
+abbrev pub RangedChecked : Checked → Type 0
+RangedChecked (Good n parting count) = (1 ≤ n) × (n ≤ mostQubits)
+RangedChecked (Faulty f line) = Unit
+
+pub record TextRead (text : Bytes) (r : Checked) : Type 0 where
+  pub checked : r ≡ checkedOf (readText text)
+  pub ranged : RangedChecked r
 
 -- after a line: the line of `=` so far, or 0; or the line's fault
-abbrev pub next : Item → ℕ → ℕ → Next
-next (item.Gate g) parting line = On parting
-next item.Parting parting line = cond (eqb parting 0) (On line) (Stop Parting)
-next (item.Faulty f) parting line = Stop f
+abbrev pub partingAfter : Item → ℕ → ℕ → Next
+partingAfter (item.Gate g) parting line = On parting
+partingAfter item.Parting parting line = cond (eqb parting 0) (On line) (Stop Parting)
+partingAfter (item.Faulty f) parting line = Stop f
 
-unfoldable pub onward : Next → ℕ → (ℕ → Checked) → Checked
-onward (On parting) line more = more parting
-onward (Stop f) line more = Faulty f line
+unfoldable pub continueCheck : Next → ℕ → (ℕ → Checked) → Checked
+continueCheck (On parting) line more = more parting
+continueCheck (Stop f) line more = Faulty f line
 
-unfoldable pub finished : ℕ → ℕ → ℕ → Checked
-finished n parting count = cond (eqb parting 0) (Faulty Parting (count + 1)) (Good n parting count)
+unfoldable pub checkedAtEnd : ℕ → ℕ → ℕ → Checked
+checkedAtEnd n parting count = cond (eqb parting 0) (Faulty Parting (count + 1)) (Good n parting count)
 
--- the lines after the first `count`
-unfoldable pub check : ℕ → ℕ → ℕ → List Bytes → Checked
-check n parting count [] = finished n parting count
-check n parting count (line ∷ ls) = onward (next (itemOf n line) parting (count + 1)) (count + 1) (λ p. check n p (count + 1) ls)
+-- the lines after the first `count`: their numbers alone are kept, not their gates
+unfoldable pub checkLines : ℕ → ℕ → ℕ → List Bytes → Checked
+checkLines n parting count [] = checkedAtEnd n parting count
+checkLines n parting count (line ∷ ls) =
+    continueCheck (partingAfter (itemOf n line) parting (count + 1)) (count + 1) (λ p. checkLines n p (count + 1) ls)
 
--- It is what the definition says.
+-- `check_lines` has read `count` lines, up to a.
+pub record CheckLoop (n : ℕ) (s : Bytes) (a0 a count parting : ℕ) : Type 0 where
+  pub within : a ≤ length s + 1
+  pub small : count ≤ a
+  pub same : checkLines n parting count (lines (drop a s)) ≡ checkLines n 0 1 (lines (drop a0 s))
 
-abbrev secondOf : ℕ → ℕ → Reading → Checked
-secondOf parting count (lists n gs hs) = Good n parting (count + length hs)
-secondOf parting count (fault f at) = Faulty f at
+-- lines after the first, each as what it is
+unfoldable pub items : ℕ → List Bytes → List Item
+items n [] = []
+items n (line ∷ ls) = itemOf n line ∷ items n ls
 
-abbrev firstOf : ℕ → Reading → Checked
-firstOf count (lists n gs hs) = Good n (count + 1 + length gs) (count + 1 + length gs + length hs)
-firstOf count (fault f at) = Faulty f at
+unfoldable pub gateItems : List Gate → List Item
+gateItems [] = []
+gateItems (g ∷ gs) = item.Gate g ∷ gateItems gs
 
-check-second : (n p count : ℕ) (ls : List Bytes) → check n (suc p) count ls ≡ secondOf (suc p) count (secondList n (count + 1) ls)
-unfolding check finished onward secondList secondItem withSecond
-check-second n p count [] = let e : count + 0 ≡ count = omega arith in rw (ne-eqb (suc p) 0 (omega arith), e)
-check-second n p count (line ∷ ls) = go (itemOf n line) (check-second n p (count + 1) ls)
-  where
-    more : (g : Gate) (r : Reading) → secondOf (suc p) (count + 1) r ≡ secondOf (suc p) count (withSecond g r)
-    more g (lists m gs hs) = ap (Good m (suc p)) {x = count + 1 + length hs} {y = count + suc (length hs)} (omega arith)
-    more g (fault f at) = refl
+-- a line of known items is there, is the first of them, and the others follow
+pub record NextItem (n : ℕ) (s : Bytes) (a : ℕ) (i : Item) (more : List Item) : Type 0 where
+  pub inside : a < length s
+  pub here : {e : ℕ} → Ends LF s a e → itemOf n (part s a e) ≡ i
+  pub on : {e : ℕ} → Ends LF s a e → items n (lines (drop (e + 1) s)) ≡ more
 
-    go : (i : Item) → check n (suc p) (count + 1) ls ≡ secondOf (suc p) (count + 1) (secondList n (count + 1 + 1) ls)
-        → onward (next i (suc p) (count + 1)) (count + 1) (λ q. check n q (count + 1) ls)
-        ≡ secondOf (suc p) count (secondItem i (count + 1) (secondList n (count + 1 + 1) ls))
-    go (item.Gate g) rec = rec ∙ more g (secondList n (count + 1 + 1) ls)
-    go item.Parting rec = rw (ne-eqb (suc p) 0 (omega arith))
-    go (item.Faulty f) rec = refl
+-- what the answer Good says of a text
+pub record GoodText (s : Bytes) (n parting count : ℕ) : Type 0 where
+  pub first : List Gate
+  pub second : List Gate
+  pub text : readText s ≡ lists n first second
+  pub place : parting ≡ 2 + length first
+  pub last : count ≡ 2 + length first + length second
+
+-- gates on qubits below n
+abbrev pub AllPlaced : ℕ → List Gate → Type 0
+AllPlaced n [] = Unit {0}
+AllPlaced n (g ∷ gs) = Placed n g × AllPlaced n gs
+
+-- The two lists of a good text are on n qubits, at most 8, and every gate is on qubits below n.
+pub record GoodLists (n : ℕ) (gs hs : List Gate) : Type 0 where
+  pub most-qubits : n ≤ mostQubits
+  pub first : AllPlaced n gs
+  pub second : AllPlaced n hs
 
 -- the lines after `=` give no gate to the first list
 abbrev pub NoFirst : Reading → Type 0
 NoFirst (lists n gs hs) = gs ≡ []
 NoFirst (fault f at) = Unit
-
-pub second-no-first : (n at : ℕ) (ls : List Bytes) → NoFirst (secondList n at ls)
-unfolding secondList secondItem withSecond
-second-no-first n at [] = refl
-second-no-first n at (line ∷ ls) = go (itemOf n line) (secondList n (at + 1) ls) (second-no-first n (at + 1) ls)
-  where
-    go : (i : Item) (r : Reading) → NoFirst r → NoFirst (secondItem i at r)
-    go (item.Gate g) (lists m gs hs) e = e
-    go (item.Gate g) (fault f at') e = tt
-    go item.Parting r e = tt
-    go (item.Faulty f) r e = tt
-
-check-first : (n count : ℕ) (ls : List Bytes) → check n 0 count ls ≡ firstOf count (firstList n (count + 1) ls)
-unfolding check finished onward firstList firstItem withFirst
-check-first n count [] = refl
-check-first n count (line ∷ ls) = go (itemOf n line) (check-first n (count + 1) ls)
-  where
-    more : (g : Gate) (r : Reading) → firstOf (count + 1) r ≡ firstOf count (withFirst g r)
-    more g (lists m gs hs) =
-        let e : count + 1 + 1 + length gs ≡ count + 1 + suc (length gs) = omega arith in
-        rw e
-    more g (fault f at) = refl
-
-    parted : (r : Reading) → NoFirst r → secondOf (suc count) (suc count) r ≡ firstOf count r
-    parted (lists m gs hs) e = let z : suc count ≡ count + 1 + 0 = omega arith in rw (e, z)
-    parted (fault f at) e = refl
-
-    go : (i : Item) → check n 0 (count + 1) ls ≡ firstOf (count + 1) (firstList n (count + 1 + 1) ls)
-        → onward (next i 0 (count + 1)) (count + 1) (λ q. check n q (count + 1) ls)
-        ≡ firstOf count (firstItem i (count + 1) (firstList n (count + 1 + 1) ls) (secondList n (count + 1 + 1) ls))
-    go (item.Gate g) rec = rec ∙ more g (firstList n (count + 1 + 1) ls)
-    go item.Parting rec =
-        let after = parted (secondList n (count + 1 + 1) ls) (second-no-first n (count + 1 + 1) ls) in
-        rw (add-one count) (check-second n count (suc count) ls ∙ rw (add-one count) at after)
-    go (item.Faulty f) rec = refl
-
--- `gate_lines` has read `count` lines, up to a.
-pub record Checking (n : ℕ) (s : Bytes) (a0 a count parting : ℕ) : Type 0 where
-  pub within : a ≤ length s + 1
-  pub small : count ≤ a
-  pub same : check n parting count (lines (drop a s)) ≡ check n 0 1 (lines (drop a0 s))
-
-pub checking-start : {n : ℕ} {s : Bytes} {a : ℕ} → 1 ≤ a → a ≤ length s + 1 → Checking n s a a 1 0
-checking-start p h = record { within = h; small = p; same = refl }
-
-pub checking-on : {n : ℕ} {s : Bytes} {a0 a count parting e p : ℕ} {i : Item} {x : Next} → Checking n s a0 a count parting → a < length s
-    → Ends LF s a e
-    → ItemRead n (part s a e) i → x ≡ next i parting (count + 1) → x ≡ On p → Checking n s a0 (e + 1) (count + 1) p
-unfolding check onward
-checking-on c h r i q o =
-    record {
-      within = omega (arith, r .within);
-      small = omega (arith, c .small, r .from);
-      same = rw (lines-first h r, ← i .item, ← q, o) at (c .same);
-    }
-
-pub checking-stop : {n : ℕ} {s : Bytes} {a0 a count parting e : ℕ} {i : Item} {x : Next} {f : Fault} → Checking n s a0 a count parting
-    → a < length s → Ends LF s a e
-    → ItemRead n (part s a e) i → x ≡ next i parting (count + 1) → x ≡ Stop f → Faulty f (count + 1) ≡ check n 0 1 (lines (drop a0 s))
-unfolding check onward
-checking-stop c h r i q o = rw (lines-first h r, ← i .item, ← q, o) at (c .same)
-
-pub checking-end : {n : ℕ} {s : Bytes} {a0 a count parting : ℕ} → Checking n s a0 a count parting → length s ≤ a
-    → finished n parting count ≡ check n 0 1 (lines (drop a0 s))
-unfolding check
-checking-end {s = s} {a = a} c h = rw (lines-none s a h) at (c .same)
-
-pub finished-good : (n parting count : ℕ) → (parting ≡ 0 → ⊥) → Good n parting count ≡ finished n parting count
-unfolding finished
-finished-good n parting count h = rw (ne-eqb parting 0 h)
-
-pub finished-none : (n parting count : ℕ) → parting ≡ 0 → Faulty Parting (count + 1) ≡ finished n parting count
-unfolding finished
-finished-none n parting count h = rw (eq-eqb parting 0 h)
-
--- What is said of a text is the definition's, and its n is 1 to 8.
-
-pub checked-none : (s : Bytes) → length s ≡ 0 → CheckedRead s (Faulty BadHeader 1)
-unfolding readText readLines lines
-checked-none s h = record { checked = rw (lines-none s 0 (omega arith)); ranged = tt }
-
-pub checked-bad : {s : Bytes} {e : ℕ} {r : Header} → (length s ≡ 0 → ⊥) → Ends LF s 0 e → HeaderRead (part s 0 e) r → r ≡ Bad
-    → CheckedRead s (Faulty BadHeader 1)
-unfolding readText readLines afterHeader
-checked-bad {s} {e} h w r q = record { checked = rw (lines-first (omega arith) w, ← r .header, q); ranged = tt }
-
-check-ranged : (n parting count : ℕ) (ls : List Bytes) → 1 ≤ n → n ≤ 8 → RangedCheck (check n parting count ls)
-unfolding check finished onward
-check-ranged n parting count [] h k = go (eqb parting 0)
-  where
-    go : (t : Bool) → RangedCheck (cond t (Faulty Parting (count + 1)) (Good n parting count))
-    go true = tt
-    go false = (h, k)
-check-ranged n parting count (line ∷ ls) h k = go (next (itemOf n line) parting (count + 1)) (λ p. check-ranged n p (count + 1) ls h k)
-  where
-    go : (x : Next) → ((p : ℕ) → RangedCheck (check n p (count + 1) ls)) → RangedCheck (onward x (count + 1) (λ p. check n p (count + 1) ls))
-    go (On p) rec = rec p
-    go (Stop f) rec = tt
-
-first-checked : (r : Reading) → firstOf 1 r ≡ checkedOf r
-first-checked (lists n gs hs) = refl
-first-checked (fault f at) = refl
-
-pub checked-of : {s : Bytes} {e n : ℕ} {r : Header} {x : Checked} → (length s ≡ 0 → ⊥) → Ends LF s 0 e → HeaderRead (part s 0 e) r → r ≡ Of n
-    → x ≡ check n 0 1 (lines (drop (e + 1) s)) → CheckedRead s x
-unfolding readText readLines afterHeader
-checked-of {s} {e} {n} {r} {x} h w i q o =
-    let ls : List Bytes = lines (drop (e + 1) s) in
-    let small : RangedHeader (Of n) = rw q at (i .ranged) in
-    record {
-      checked = o ∙ check-first n 1 ls ∙ rw (lines-first (omega arith) w, ← i .header, q) (first-checked (firstList n 2 ls));
-      ranged = rw o (check-ranged n 0 1 ls (small .0) (small .1));
-    }

@@ -1,56 +1,84 @@
--- What a reader must believe: document 01's texts, calls, answers and verdict texts
+-- What a reader must believe: document 01's texts, calls and answers, in its order
 pub mod Text
-pub mod Gates
-pub mod Calls
-pub mod Answers
-pub mod Verdict
+pub mod Limits
+pub mod Number
+pub mod Words
+pub mod Args
+pub mod Names
+pub mod Call
+pub mod Gate
+pub mod Line
+pub mod Print
+pub mod Answer
 pub mod Session
-pub mod VerdictRun
+-- document 01's verdicts: the text, the answer, the session that a text stands for
+pub mod Check
+pub mod Ruling
+pub mod Qubits
+pub mod VerdictSession
 -- demand 3, sentence by sentence; what a list of gates means, and what a verdict says (demand 2)
 pub mod Agrees
 pub mod Product
 pub mod VerdictMeaning
 pub mod VerdictBytes
--- what the code's proofs use of them
+-- what the code promises, module by module
 pub mod Split
-pub mod Same
-pub mod Number
-pub mod Args
-pub mod Checks
-pub mod Line
 pub mod Squeeze
+pub mod Engine
+pub mod Operate
+pub mod Respond
+pub mod Progress
+pub mod Apply
+pub mod Perform
+pub mod List
+pub mod Judge
+-- what laws speak of: a complete tally, calls that run, sessions with more indices
+pub mod Complete
+pub mod Runs
+pub mod GrowSession
+pub mod GateMatrix
+-- laws of texts, calls and answers
+pub mod SplitLaws
+pub mod NumberLaws
+pub mod ArgsLaws
+pub mod CallLaws
+pub mod NamesLaws
+pub mod GateLaws
+pub mod LineLaws
+pub mod SqueezeReadLaws
 pub mod SqueezeLaws
-pub mod Ranges
-pub mod Print
+pub mod PrintLaws
 pub mod AnswerLaws
-pub mod VerdictLaws
-pub mod Check
-pub mod Lists
+pub mod CheckLaws
+pub mod CheckTextLaws
+pub mod CheckListsLaws
 pub mod RulingLaws
-pub mod PrintedLaws
+pub mod DecimalLaws
+pub mod RulingBytesLaws
 -- laws of the tally, of a verdict's session and of what it means
 pub mod SessionLaws
-pub mod TallyLaws
-pub mod VerdictRunLaws
-pub mod GateShape
-pub mod VerdictLists
-pub mod StateSums
+pub mod CompleteLaws
+pub mod QubitsLaws
+pub mod ApplyLaws
+pub mod GateCallsLaws
+pub mod RunsLaws
+pub mod VerdictSessionLaws
+pub mod MatrixLaws
+pub mod GateMatrixLaws
 pub mod ProductLaws
 pub mod VerdictMeaningLaws
+pub mod VerdictFaultLaws
 pub mod VerdictLineLaws
-pub mod GrowSession
--- the engine between two lines, its calls, and the run
-pub mod Engine
-pub mod Respond
+pub mod GrowSessionLaws
+-- laws of the engine between two lines, its calls, and the run
+pub mod EngineLaws
+pub mod OperateLaws
+pub mod RespondLaws
 pub mod AgreesLaws
-pub mod Progress
--- the verdict's session, call by call and line by line
-pub mod Qubits
-pub mod Apply
-pub mod ApplyLaws
-pub mod Perform
-pub mod Stage
-pub mod Judge
+pub mod ProgressLaws
+-- laws of the verdict's session, call by call and line by line
+pub mod PerformLaws
+pub mod ListLaws
+pub mod JudgeLaws
+pub mod VerdictOutputLaws
 pub mod VerdictBytesLaws
--- the calls for programs in other languages
-pub mod Export

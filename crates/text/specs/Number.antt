@@ -1,85 +1,35 @@
--- Numbers as the code reads them, digit by digit.
-use mathlib.Core.Path.{_≡_, refl, sym, _∙_}
-use mathlib.Core.Bool.{true, false, _&&_, and-false}
+-- Numbers (document 01, "Session calls"), and how the code reads them.
+use mathlib.Core.Bool.{Bool, _&&_, cond, false, not}
 use mathlib.Core.List.{[], _∷_}
+use mathlib.Core.Path.{_≡_}
 use Prim.Native.Nat.{ℕ, _+_, _*_, _-_, _^_, _≤_, _<_}
-use native.Mathlib.Numerals.{add-one}
-use native.Mathlib.Nat.{pow-suc, pow-le-pow-right}
-use native.Mathlib.Omega.{arith}
-use lib.Dec.{eqb, leb}
-use lib.ListN.{length, getD, drop, drop-of-length-le}
-use lib.Seq.{drop-cons}
-use borrow.Author.Tests.{le-leb, lt-leb}
-use Rattle.text.specs.Text.{Bytes, digit, digitsFrom, needless, numberOf}
+use lib.Dec.{leb, eqb}
+use lib.ListN.{length, drop}
+use Rattle.text.specs.Text.{Bytes}
+use Rattle.text.specs.declared.number.Number.{Number}
 use Rattle.text.specs.declared.number.Number.the-variants.{Malformed, Of}
 
-digits-on : (v : ℕ) (s : Bytes) (i : ℕ) → i < length s → 48 ≤ getD s i 0 → getD s i 0 ≤ 57
-    → digitsFrom v (drop i s) ≡ digitsFrom (10 * v + (getD s i 0 - 48)) (drop (i + 1) s)
-unfolding digitsFrom digit
-digits-on v s i h p q = rw (drop-cons s i 0 h, le-leb 48 (getD s i 0) p, le-leb (getD s i 0) 57 q, add-one i)
+-- "Decimal digits throughout."
+unfoldable pub digit : ℕ → Bool
+digit x = leb 48 x && leb x 57
 
-digits-below : (v : ℕ) (s : Bytes) (i : ℕ) → i < length s → getD s i 0 < 48 → digitsFrom v (drop i s) ≡ Malformed
-unfolding digitsFrom digit
-digits-below v s i h p = rw (drop-cons s i 0 h, lt-leb 48 (getD s i 0) p)
+-- the number that v and the digits after it make
+unfoldable pub digitsFrom : ℕ → Bytes → Number
+digitsFrom v [] = Of v
+digitsFrom v (x ∷ s) = cond (digit x) (digitsFrom (10 * v + (x - 48)) s) Malformed
 
-digits-above : (v : ℕ) (s : Bytes) (i : ℕ) → i < length s → 57 < getD s i 0 → digitsFrom v (drop i s) ≡ Malformed
-unfolding digitsFrom digit
-digits-above v s i h p = rw (drop-cons s i 0 h, le-leb 48 (getD s i 0) (omega arith), lt-leb (getD s i 0) 57 p)
+-- a leading zero is needless where anything stands after it
+unfoldable pub needless : Bytes → Bool
+needless [] = false
+needless (x ∷ []) = false
+needless (x ∷ y ∷ s) = eqb x 48
 
-digits-end : (v : ℕ) (s : Bytes) (i : ℕ) → length s ≤ i → digitsFrom v (drop i s) ≡ Of v
-unfolding digitsFrom
-digits-end v s i h = rw (drop-of-length-le s h)
+-- "Numbers have 1 to 8 digits and no needless leading zero." Here 1 to `most` digits.
+unfoldable pub numberOf : ℕ → Bytes → Number
+numberOf most s = cond (leb 1 (length s) && leb (length s) most && not (needless s)) (digitsFrom 0 s) Malformed
 
 -- `digits` has read i digits, which make v
-pub record DigitsRead (s : Bytes) (v i : ℕ) : Type 0 where
+pub record DigitsLoop (s : Bytes) (v i : ℕ) : Type 0 where
   pub within : i ≤ length s
   pub small : v < 10 ^ i
   pub same : digitsFrom v (drop i s) ≡ digitsFrom 0 s
-
-pub reading-start : {s : Bytes} → DigitsRead s 0 0
-reading-start = record { within = omega arith; small = omega arith; same = refl }
-
-pub reading-on : {s : Bytes} {v i : ℕ} → DigitsRead s v i → i < length s → 48 ≤ getD s i 0 → getD s i 0 ≤ 57
-    → DigitsRead s (10 * v + (getD s i 0 - 48)) (i + 1)
-reading-on {s} {v} {i} r h p q =
-    record { within = omega arith; small = rw (add-one i, pow-suc 10 i) (omega arith); same = sym (digits-on v s i h p q) ∙ r .same }
-
-pub reading-small : {s : Bytes} {v i : ℕ} → DigitsRead s v i → i < length s → length s ≤ 8 → v < 100000000
-reading-small {s} {v} {i} r h p = omega (arith, pow-le-pow-right {n = 10} (omega arith) {i = i} {j = 8} (omega arith), r .small)
-
-pub reading-below : {s : Bytes} {v i : ℕ} → DigitsRead s v i → i < length s → getD s i 0 < 48 → Malformed ≡ digitsFrom 0 s
-reading-below {s} {v} {i} r h p = sym (digits-below v s i h p) ∙ r .same
-
-pub reading-above : {s : Bytes} {v i : ℕ} → DigitsRead s v i → i < length s → 57 < getD s i 0 → Malformed ≡ digitsFrom 0 s
-reading-above {s} {v} {i} r h p = sym (digits-above v s i h p) ∙ r .same
-
-pub reading-end : {s : Bytes} {v i : ℕ} → DigitsRead s v i → length s ≤ i → Of v ≡ digitsFrom 0 s
-reading-end {s} {v} {i} r h = sym (digits-end v s i h) ∙ r .same
-
-pub short-plain : (s : Bytes) → length s < 2 → false ≡ needless s
-unfolding needless
-short-plain [] h = refl
-short-plain (x ∷ []) h = refl
-short-plain (x ∷ y ∷ s) h = absurd (omega arith)
-
-pub first-zero : (s : Bytes) → 2 ≤ length s → eqb (getD s 0 0) 48 ≡ needless s
-unfolding needless
-first-zero [] h = absurd (omega arith)
-first-zero (x ∷ []) h = absurd (omega arith)
-first-zero (x ∷ y ∷ s) h = refl
-
-pub number-none : (most : ℕ) (s : Bytes) → length s ≡ 0 → Malformed ≡ numberOf most s
-unfolding numberOf
-number-none most s h = rw (lt-leb 1 (length s) (omega arith))
-
-pub number-long : (most : ℕ) (s : Bytes) → most < length s → Malformed ≡ numberOf most s
-unfolding numberOf
-number-long most s h = rw (lt-leb (length s) most h, and-false (leb 1 (length s)))
-
-pub number-needless : (most : ℕ) (s : Bytes) → needless s ≡ true → Malformed ≡ numberOf most s
-unfolding numberOf
-number-needless most s h = rw (h, and-false (leb 1 (length s) && leb (length s) most))
-
-pub number-plain : (most : ℕ) (s : Bytes) → (length s ≡ 0 → ⊥) → length s ≤ most → needless s ≡ false → digitsFrom 0 s ≡ numberOf most s
-unfolding numberOf
-number-plain most s n h e = rw (le-leb 1 (length s) (omega arith), le-leb (length s) most h, e)

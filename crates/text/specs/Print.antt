@@ -1,167 +1,33 @@
--- Bytes and numbers put at a place of the output, as the code puts them.
-use mathlib.Core.Path.{_≡_, refl, ap, sym, _∙_}
-use mathlib.Core.Bool.{Bool, true, false, cond}
-use mathlib.Core.List.{[], _∷_, _++_, append-nil}
-use Prim.Native.Nat.{ℕ, zero, suc, _+_, _/_, _%_, _^_, _≤_, _<_}
-use native.Mathlib.Numerals.{add-one}
-use native.Mathlib.Nat.{add-zero, pow-suc, div-lt-iff-lt-mul}
-use native.Mathlib.Omega.{arith}
+-- Bytes and numbers put at a place of the output.
+use mathlib.Core.Bool.{cond}
+use mathlib.Core.List.{[], _∷_, _++_}
+use mathlib.Core.Path.{_≡_}
+use Prim.Native.Nat.{ℕ, zero, suc, _+_, _/_, _%_, _≤_}
 use lib.Dec.{ltb}
-use borrow.Author.Tests.{lt-ltb, le-ltb}
-use lib.ListN.{length, take, getD, set, length-set, length-append, take-append-drop}
-use lib.Seq.{sets, sets-eq, length-sets, take-suc, take-all, length-take-le}
-use Rattle.text.specs.Text.{Bytes, LF}
-use Rattle.text.specs.Answers.{digits, decimal, written}
+use lib.ListN.{length, take, drop}
+use lib.Seq.{sets}
+use Rattle.text.specs.Text.{Bytes}
 
--- Texts written one after the other.
+-- the digits of n, at most k of them
+unfoldable pub digits : ℕ → ℕ → Bytes
+digits zero n = []
+digits (suc k) n = cond (ltb n 10) ((48 + n) ∷ []) (digits k (n / 10) ++ ((48 + n % 10) ∷ []))
 
-sets-append : (l : Bytes) (i : ℕ) (s t : Bytes) → sets (sets l i s) (i + length s) t ≡ sets l i (s ++ t)
-sets-append l i [] t = ap (λ (k : ℕ). sets l k t) {x = i + 0} {y = i} (omega arith)
-sets-append l i (v ∷ s) t =
-    let place : i + suc (length s) ≡ suc i + length s = omega arith in
-    rw place (sets-append (set l i v) (suc i) s t)
+-- "Decimal digits throughout." A number of 64 bits has at most 20 of them.
+unfoldable pub decimal : ℕ → Bytes
+decimal n = digits 20 n
+
+-- l with the bytes of a text from `at` on, and all other bytes as they were
+unfoldable pub written : Bytes → ℕ → Bytes → Bytes
+written l at text = take at l ++ text ++ drop (at + length text) l
 
 -- s is put at a place of l, and e is the place after it
 pub record Wrote (l : Bytes) (at : ℕ) (s l' : Bytes) (e : ℕ) : Type 0 where
   pub exact : l' ≡ written l at s
   pub after : e ≡ at + length s
 
-written-sets : (l : Bytes) (at : ℕ) (s : Bytes) → at + length s ≤ length l → written l at s ≡ sets l at s
-unfolding written
-written-sets l at s h = sym (sets-eq s l at h)
-
-pub written-length : (l : Bytes) (at : ℕ) (s : Bytes) → at + length s ≤ length l → length (written l at s) ≡ length l
-written-length l at s h = rw (written-sets l at s h) (length-sets l at s)
-
-pub written-none : (l : Bytes) (at : ℕ) → written l at [] ≡ l
-unfolding written
-written-none l at = rw (add-zero at, append-nil (take at l)) (take-append-drop at l)
-
-pub written-then : (l : Bytes) (at : ℕ) (s t : Bytes) → at + length s + length t ≤ length l
-    → written (written l at s) (at + length s) t ≡ written l at (s ++ t)
-written-then l at s t h =
-    let room : at + length s ≤ length l = omega arith in
-    let size = written-length l at s room in
-    let both : at + length (s ++ t) ≤ length l = omega (arith, length-append s t) in
-    rw (written-sets (written l at s) (at + length s) t (omega arith), written-sets l at s room, written-sets l at (s ++ t) both)
-    (sets-append l at s t)
-
-pub wrote-length : {l : Bytes} {at : ℕ} {s l' : Bytes} {e : ℕ} → at + length s ≤ length l → Wrote l at s l' e → length l' ≡ length l
-wrote-length {l} {at} {s} h w = rw (w .exact) (written-length l at s h)
-
-pub wrote-then : {l l1 l2 s t : Bytes} {at e r : ℕ} → Wrote l at s l1 e → Wrote l1 e t l2 r → at + length s + length t ≤ length l
-    → Wrote l at (s ++ t) l2 r
-wrote-then {l} {l1} {l2} {s} {t} {at} {e} {r} w v h =
-    record { exact = v .exact ∙ rw (w .exact, w .after) (written-then l at s t h); after = omega (arith, w .after, v .after, length-append s t) }
-
-pub wrote-byte : (l : Bytes) (at v : ℕ) → at < length l → Wrote l at (v ∷ []) (set l at v) (at + 1)
-wrote-byte l at v h = record { exact = sym (written-sets l at (v ∷ []) (omega arith)); after = refl }
-
 -- The first i bytes of a text have been put.
-pub record Putting (l : Bytes) (at : ℕ) (s l' : Bytes) (i : ℕ) : Type 0 where
+pub record PutLoop (l : Bytes) (at : ℕ) (s l' : Bytes) (i : ℕ) : Type 0 where
   pub within : i ≤ length s
   pub room : length l' ≡ length l
   pub same : l' ≡ sets l at (take i s)
-
-pub putting-start : {l : Bytes} {at : ℕ} {s : Bytes} → Putting l at s l 0
-putting-start = record { within = omega arith; room = refl; same = refl }
-
-pub putting-on : {l : Bytes} {at : ℕ} {s l' : Bytes} {i : ℕ} → Putting l at s l' i → i < length s
-    → Putting l at s (set l' (at + i) (getD s i 0)) (i + 1)
-putting-on {l} {at} {s} {l'} {i} p h =
-    let size : at + length (take i s) ≡ at + i = omega (arith, length-take-le i s (p .within)) in
-    record {
-      within = omega arith;
-      room = length-set l' (at + i) (getD s i 0) ∙ p .room;
-      same = rw (p .same, add-one i, take-suc s i 0 h, ← sets-append l at (take i s) (getD s i 0 ∷ []), size);
-    }
-
-pub putting-end : {l : Bytes} {at : ℕ} {s l' : Bytes} {i : ℕ} → Putting l at s l' i → length s ≤ i → at + length s ≤ length l
-    → Wrote l at s l' (at + i)
-putting-end {l} {at} {s} {l'} {i} p h n = record { exact = rw (p .same, take-all i s h, written-sets l at s n); after = omega arith }
-
--- Decimal digits.
-
-digits-more : (k n : ℕ) → 0 < k → n < 10 ^ k → digits (suc k) n ≡ digits k n
-unfolding digits
-digits-more zero n p h = absurd (omega arith)
-digits-more (suc zero) n p h = rw (lt-ltb n 10 (omega arith))
-digits-more (suc (suc k)) n p h =
-    ap (λ (l : Bytes). cond (ltb n 10) ((48 + n) ∷ []) (l ++ ((48 + n % 10) ∷ [])))
-    (digits-more (suc k) (n / 10) (omega arith) (div-lt-iff-lt-mul {k = 10} (omega arith) .1 (rw (pow-suc 10 (suc k)) at h)))
-
-pub decimal-small : (n : ℕ) → n < 10 → decimal n ≡ (48 + n) ∷ []
-unfolding decimal digits
-decimal-small n h = rw (lt-ltb n 10 h)
-
-pub decimal-more : (n : ℕ) → 10 ≤ n → n < 2 ^ 64 → decimal n ≡ decimal (n / 10) ++ ((48 + n % 10) ∷ [])
-unfolding decimal digits
-decimal-more n h b = rw (le-ltb n 10 h) (ap (λ (l : Bytes). l ++ ((48 + n % 10) ∷ [])) (sym (digits-more 19 (n / 10) (omega arith) (omega arith))))
-
-digits-length : (m k n : ℕ) → 0 < k → n < 10 ^ k → length (digits m n) ≤ k
-unfolding digits
-digits-length zero k n p h = omega arith
-digits-length (suc m) zero n p h = absurd (omega arith)
-digits-length (suc m) (suc zero) n p h = rw (lt-ltb n 10 (omega arith)) (omega arith)
-digits-length (suc m) (suc (suc k)) n p h =
-    go (ltb n 10) (digits-length m (suc k) (n / 10) (omega arith) (div-lt-iff-lt-mul {k = 10} (omega arith) .1 (rw (pow-suc 10 (suc k)) at h)))
-  where
-    go : (t : Bool) → length (digits m (n / 10)) ≤ suc k → length (cond t ((48 + n) ∷ []) (digits m (n / 10) ++ ((48 + n % 10) ∷ []))) ≤ suc (suc k)
-    go true r = omega arith
-    go false r = omega (arith, length-append (digits m (n / 10)) ((48 + n % 10) ∷ []))
-
--- no number is longer than 20 digits, and none of an answer longer than 5
-pub decimal-length : (n k : ℕ) → 0 < k → n < 10 ^ k → length (decimal n) ≤ k
-unfolding decimal
-decimal-length n k p h = digits-length 20 k n p h
-
--- A number's only digit is put ..
-pub digit-room : (n at m : ℕ) → n < 10 → at + length (decimal n) ≤ m → at < m
-digit-room n at m h r = omega (arith, ap length (decimal-small n h))
-
-pub digit-put : (l : Bytes) (n at : ℕ) → n < 10 → at + length (decimal n) ≤ length l → Wrote l at (decimal n) (set l at (48 + n)) (at + 1)
-digit-put l n at h r = rw (decimal-small n h) (wrote-byte l at (48 + n) (digit-room n at (length l) h r))
-
--- .. or its digits but the last, and then the last.
-pub digits-room : (n at m : ℕ) → 10 ≤ n → n < 2 ^ 64 → at + length (decimal n) ≤ m → at + length (decimal (n / 10)) < m
-digits-room n at m h b r = omega (arith, ap length (decimal-more n h b), length-append (decimal (n / 10)) ((48 + n % 10) ∷ []))
-
-module _ {l l' : Bytes} {n at e : ℕ} (h : 10 ≤ n) (b : n < 2 ^ 64) (r : at + length (decimal n) ≤ length l) (w : Wrote l at (decimal (n / 10)) l' e) where
-  pub last-room : (e < length l') × (length l' ≡ length l)
-  last-room =
-      let room = digits-room n at (length l) h b r in
-      let size = wrote-length (omega arith) w in
-      (omega (arith, w .after), size)
-
-  pub last-put : Wrote l at (decimal n) (set l' e (48 + n % 10)) (e + 1)
-  last-put =
-      let room = digits-room n at (length l) h b r in
-      rw (decimal-more n h b) (wrote-then w (wrote-byte l' e (48 + n % 10) (last-room .0)) (omega arith))
-
--- what is left after a text is still there
-pub wrote-room : {l : Bytes} {at : ℕ} {s l' : Bytes} {e : ℕ} (k : ℕ) → at + length s + k ≤ length l → Wrote l at s l' e → e + k ≤ length l'
-wrote-room {l} {at} {s} k h w = omega (arith, wrote-length (omega arith) w, w .after)
-
--- A word with its tab, and a number: a line.
-unfoldable pub ended : Bytes → ℕ → Bytes
-ended word n = word ++ decimal n ++ (LF ∷ [])
-
-module _ (word : Bytes) (n : ℕ) (short : length word < 10) (small : n ≤ 65536) where
-  -- it has at most 16 bytes, its LF among them
-  size : length (word ++ decimal n) + 1 ≤ 16
-  size = omega (arith, length-append word (decimal n), decimal-length n 5 (omega arith) (omega arith))
-
-  pub ended-short : length (ended word n) ≤ 16
-  unfolding ended
-  ended-short = omega (arith, length-append (word ++ decimal n) (LF ∷ []), size)
-
-  pub ended-label : (at m : ℕ) → at + 16 ≤ m → at + length word + length (decimal n) ≤ m
-  ended-label at m h = omega (arith, length-append word (decimal n), size)
-
-  pub ended-room : {l l1 : Bytes} {at e : ℕ} → at + 16 ≤ length l → Wrote l at (word ++ decimal n) l1 e → e + 1 ≤ length l1
-  ended-room h w = wrote-room 1 (omega (arith, size)) w
-
-  pub ended-wrote : {l l1 l2 : Bytes} {at e r : ℕ} → at + 16 ≤ length l → Wrote l at (word ++ decimal n) l1 e → Wrote l1 e (LF ∷ []) l2 r
-      → Wrote l at (ended word n) l2 r
-  unfolding ended
-  ended-wrote h w v = wrote-then w v (omega (arith, size))

@@ -1,72 +1,54 @@
--- A gate's qubits as the code has them.
-use mathlib.Core.Path.{_≡_, ap, sym, subst, _∙_}
+-- A gate's qubits (document 01, "Verdicts"), in rising order and as the code has them.
 use mathlib.Core.List.{List, [], _∷_}
-use Prim.Native.Nat.{ℕ, _+_, _*_, _^_, _%_, _≤_, _<_, min, max}
-use native.Mathlib.Omega.{arith}
-use lib.Pow.{pow-lt}
-use Rattle.diagram.specs.Gates.{shape}
-use Rattle.diagram.specs.Mask.{one-shl}
-use Rattle.diagram.specs.declared.gate.Gate.{Gate}
+use mathlib.Core.Path.{_≡_}
+use mathlib.Core.Bool.{true}
+use Prim.Native.Nat.{ℕ, min, max, _+_, _*_, _^_, suc, _≤_, _<_}
+use Rattle.diagram.specs.Gate.{shape}
+use Rattle.diagram.specs.Tensor.{Bits}
+use Rattle.text.specs.Limits.{mostQubits}
 use Rattle.diagram.specs.declared.gate.Shape.{Shape}
-use Rattle.diagram.specs.declared.gate.Shape.the-variants as shapes
-use Rattle.text.specs.Gates.{PlacedOn, Placed}
-use Rattle.text.specs.VerdictRun.{qubitsOn, qubits, middles}
+use Rattle.diagram.specs.declared.gate.Gate.{Gate}
 use Rattle.text.specs.declared.qubits.Qubits.{Qubits}
 use Rattle.text.specs.declared.qubits.Qubits.the-variants.{One, Two}
+use Rattle.diagram.specs.declared.gate.Shape.the-variants as shapes
 
-abbrev pub listed : Qubits → List ℕ
-listed (One q) = q ∷ []
-listed (Two p q) = p ∷ q ∷ []
+-- the qubits of a gate, "in rising order"
+abbrev pub qubitsOn : Shape → List ℕ
+qubitsOn (shapes.One q) = q ∷ []
+qubitsOn (shapes.Two a b) = min a b ∷ max a b ∷ []
 
-abbrev pub Below : Qubits → Type 0
-Below (One q) = q < 8
-Below (Two p q) = (p < 8) × (q < 8)
+abbrev pub qubits : Gate → List ℕ
+qubits g = qubitsOn (shape g)
+
+-- "the middles of its qubits", as the mask of `cont`: qubit q has the middle 3q+1
+unfoldable pub middles : List ℕ → ℕ
+middles [] = 0
+middles (q ∷ qs) = 2 ^ (3 * q + 1) + middles qs
+
+-- qubits in rising order, from `least` on, that fit into d indices
+abbrev pub Rising : ℕ → ℕ → List ℕ → Type 0
+Rising d least [] = Unit {0}
+Rising d least (q ∷ qs) = (least ≤ q) × (3 * q + 2 < d) × Rising d (suc q) qs
+
+-- the mask has every middle of the qubits
+abbrev pub AllSet : List ℕ → Bits → Type 0
+AllSet [] S = Unit {0}
+AllSet (q ∷ qs) S = (S (3 * q + 1) ≡ true) × AllSet qs S
+
+-- every gate's qubits fit into d indices
+abbrev pub AllFit : ℕ → List Gate → Type 0
+AllFit d [] = Unit {0}
+AllFit d (g ∷ gs) = Rising d 0 (qubits g) × AllFit d gs
+
+-- as the code has them: in a list, each one of the eight, those of a gate
+abbrev pub qubitList : Qubits → List ℕ
+qubitList (One q) = q ∷ []
+qubitList (Two p q) = p ∷ q ∷ []
+
+abbrev pub RangedQubits : Qubits → Type 0
+RangedQubits (One q) = q < mostQubits
+RangedQubits (Two p q) = (p < mostQubits) × (q < mostQubits)
 
 pub record QubitsOf (g : Gate) (r : Qubits) : Type 0 where
-  pub is : listed r ≡ qubits g
-  pub below : Below r
-
-module _ (g : Gate) {x : Shape} (h : Placed 8 g) (e : x ≡ shape g) where
-  placed : {y : Shape} → x ≡ y → PlacedOn 8 y
-  placed f = subst (PlacedOn 8) (sym e ∙ f) h
-
-  listed-as : {y : Shape} → x ≡ y → qubitsOn y ≡ qubits g
-  listed-as f = ap qubitsOn (sym f ∙ e)
-
-  pub qubits-one : {q : ℕ} → x ≡ shapes.One q → QubitsOf g (One q)
-  qubits-one f = record { is = listed-as f; below = placed f }
-
-  module _ {p q : ℕ} (f : x ≡ shapes.Two p q) where
-    ordered : {a b : ℕ} → a ≡ min p q → b ≡ max p q → QubitsOf g (Two a b)
-    ordered u v = let k = placed f in record { is = rw (u, v) (listed-as f); below = (omega arith, omega arith) }
-
-    pub qubits-below : q < p → QubitsOf g (Two q p)
-    qubits-below l = ordered (omega arith) (omega arith)
-
-    pub qubits-above : p ≤ q → QubitsOf g (Two p q)
-    qubits-above l = ordered (omega arith) (omega arith)
-
--- 2 to the middle index
-
-pub middle-set : (q : ℕ) → q < 8 → (1 * 2 ^ (3 * q + 1)) % 2 ^ 64 ≡ 2 ^ (3 * q + 1)
-middle-set q p = one-shl (3 * q + 1) (omega arith)
-
-pub middle-small : (q : ℕ) → q < 8 → (1 * 2 ^ (3 * q + 1)) % 2 ^ 64 < 8388608
-middle-small q p = rw (middle-set q p) (pow-lt {i = 3 * q + 1} {j = 23} (omega arith))
-
-pub middles-one : {q r : ℕ} {x : Qubits} → x ≡ One q → r ≡ 2 ^ (3 * q + 1) → r ≡ middles (listed x)
-unfolding middles
-middles-one m e = rw m (omega arith)
-
-pub middles-two : {p q r s : ℕ} {x : Qubits} → x ≡ Two p q → r ≡ 2 ^ (3 * p + 1) → s ≡ 2 ^ (3 * q + 1) → r + s ≡ middles (listed x)
-unfolding middles
-middles-two m e f = rw m (omega arith)
-
-pub below-one : {q : ℕ} (x : Qubits) → Below x → x ≡ One q → q < 8
-below-one x b e = subst Below e b
-
-pub below-first : {p q : ℕ} (x : Qubits) → Below x → x ≡ Two p q → p < 8
-below-first x b e = subst Below e b .0
-
-pub below-second : {p q : ℕ} (x : Qubits) → Below x → x ≡ Two p q → q < 8
-below-second x b e = subst Below e b .1
+  pub is : qubitList r ≡ qubits g
+  pub below : RangedQubits r

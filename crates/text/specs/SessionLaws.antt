@@ -1,68 +1,75 @@
--- Laws of the tally over a session: lines after lines, and what a refused line leaves.
+-- Laws of Session: lines after lines, refused calls, and what fits the capacity.
 use mathlib.Core.Path.{_≡_, refl, sym}
 use mathlib.Core.Bool.{Bool, true, false, cond, false≢true}
 use mathlib.Core.List.{List, [], _∷_, _++_}
 use mathlib.Core.Option.{Option, none, some}
-use Prim.Native.Nat.{ℕ, suc, _+_, _-_, _≤_}
+use Prim.Native.Nat.{ℕ, _+_, _-_, _≤_, suc}
 use native.Mathlib.Omega.{arith}
-use borrow.Author.Tests.{le-leb, leb-true}
 use lib.Dec.{leb}
 use lib.ListN.{length, getD, set}
+use borrow.Author.Tests.{le-leb, leb-true}
 use Rattle.diagram.specs.Tensor.{Tensor, depends}
 use Rattle.diagram.specs.Tally.{Set, member, within, collect}
 use Rattle.text.specs.Text.{Bytes}
-use Rattle.text.specs.Calls.{readLine}
-use Rattle.text.specs.Answers.{isNo}
-use Rattle.text.specs.Session.{Capacity, most, unlimited, fits, Tally, count, Reply, accept, refuse, settle, holding, register, answer, Run, more, stopped, run}
-use Rattle.text.specs.declared.answer.Answer.the-variants.{Ok}
+use Rattle.text.specs.Limits.{answerRoom}
+use Rattle.text.specs.Line.{readLine}
+use Rattle.text.specs.Answer.{isNo}
+use Rattle.text.specs.Session.{Capacity, answer, TallyRun, withAnswer, stoppedRun, run, Tally, TallyReply, fits}
+use Rattle.text.specs.Session.{accept, refuse, settle, withTensor, withRegister, most, unlimited, nodeCount}
 use Rattle.text.specs.declared.call.Refusal.the-variants.{Full, Depends}
 use Rattle.text.specs.declared.call.Call.{Call}
+use Rattle.text.specs.declared.answer.Answer.the-variants.{Ok}
 use Rattle.text.specs.declared.call.Call.the-variants as call
 
 module _ {d : ℕ} (c : Capacity) (room : ℕ) where
   -- a run that has stopped stays as it is
-  stopped-stays : (ls : List Bytes) (r : Run d) → leb (length (r .output) + 16) room ≡ false → run c room ls (stopped r) ≡ stopped r
-  unfolding run stopped
+  stopped-stays : (ls : List Bytes) (r : TallyRun d) → leb (length (r .output) + answerRoom) room ≡ false
+      → run c room ls (stoppedRun r) ≡ stoppedRun r
+  unfolding run stoppedRun
   stopped-stays [] r e = refl
   stopped-stays (l ∷ ls) r e = rw e
 
   -- lines, and then others
-  pub run-append : (ks ls : List Bytes) (r : Run d) → run c room (ks ++ ls) r ≡ run c room ls (run c room ks r)
+  pub run-append : (ks ls : List Bytes) (r : TallyRun d) → run c room (ks ++ ls) r ≡ run c room ls (run c room ks r)
   unfolding run
   run-append [] ls r = refl
   run-append (k ∷ ks) ls r =
-      go (leb (length (r .output) + 16) room) refl (run-append ks ls (more r (answer c (readLine k) (r .tally))))
+      go (leb (length (r .output) + answerRoom) room) refl (run-append ks ls (withAnswer r (answer c (readLine k) (r .tally))))
     where
-      go : (b : Bool) → leb (length (r .output) + 16) room ≡ b
-          → run c room (ks ++ ls) (more r (answer c (readLine k) (r .tally))) ≡ run c room ls (run c room ks (more r (answer c (readLine k) (r .tally))))
-          → cond b (run c room (ks ++ ls) (more r (answer c (readLine k) (r .tally)))) (stopped r)
-          ≡ run c room ls (cond b (run c room ks (more r (answer c (readLine k) (r .tally)))) (stopped r))
+      go : (b : Bool) → leb (length (r .output) + answerRoom) room ≡ b
+          → run c room (ks ++ ls) (withAnswer r (answer c (readLine k) (r .tally)))
+          ≡ run c room ls (run c room ks (withAnswer r (answer c (readLine k) (r .tally))))
+          → cond b (run c room (ks ++ ls) (withAnswer r (answer c (readLine k) (r .tally)))) (stoppedRun r)
+          ≡ run c room ls (cond b (run c room ks (withAnswer r (answer c (readLine k) (r .tally)))) (stoppedRun r))
       go true e ih = ih
       go false e ih = sym (stopped-stays ls r e)
 
 -- "A refused line leaves set and registers as they were."
 
-abbrev Kept : {d : ℕ} → Tally d → Reply d → Type 0
-Kept t y = isNo (y .0) ≡ true → y .1 ≡ t
+abbrev KeptIfRefused : {d : ℕ} → Tally d → TallyReply d → Type 0
+KeptIfRefused t y = isNo (y .0) ≡ true → y .1 ≡ t
 
 module _ {d : ℕ} (c : Capacity) (t : Tally d) where
-  kept-settle : (r : ℕ) (y : Tensor d × Set d) → Kept t (settle c r y t)
+  kept-settle : (r : ℕ) (y : Tensor d × Set d) → KeptIfRefused t (settle c r y t)
   unfolding settle accept refuse
   kept-settle r y = go (fits c (length (y .1)))
     where
-      go : (b : Bool) → Kept t (cond b (accept (record { nodes = y .1; registers = set (t .registers) r (some (y .0)) })) (refuse Full t))
+      go : (b : Bool)
+          → KeptIfRefused t
+          (cond b (accept (record { nodes = y .1; registers = set (t .registers) r (some (y .0)) })) (refuse Full t))
       go true e = absurd (false≢true e)
       go false e = refl
 
-  kept-register : (a : ℕ) (f : Tensor d → Reply d) → ((T : Tensor d) → Kept t (f T)) → Kept t (register t a f)
-  unfolding register holding refuse
+  kept-register : (a : ℕ) (f : Tensor d → TallyReply d) → ((T : Tensor d) → KeptIfRefused t (f T))
+      → KeptIfRefused t (withRegister t a f)
+  unfolding withRegister withTensor refuse
   kept-register a f h = go (getD (t .registers) a none)
     where
-      go : (o : Option (Tensor d)) → Kept t (holding o t f)
+      go : (o : Option (Tensor d)) → KeptIfRefused t (withTensor o t f)
       go none e = refl
       go (some T) e = h T e
 
-  kept-low : (b : Bool) (r : ℕ) (y : Tensor d × Set d) → Kept t (cond b (refuse Depends t) (settle c r y t))
+  kept-low : (b : Bool) (r : ℕ) (y : Tensor d × Set d) → KeptIfRefused t (cond b (refuse Depends t) (settle c r y t))
   unfolding refuse
   kept-low true r y = λ e. refl
   kept-low false r y = kept-settle r y
@@ -96,12 +103,12 @@ within-fewer l (x ∷ s) = go (member x l) (within-fewer l s)
     go true p = omega arith
     go false p = omega arith
 
-module _ {d : ℕ} (c : Capacity) (t : Tally d) (h : fits c (count t) ≡ true) where
-  abbrev Fit : Reply d → Type 0
-  Fit y = fits c (count (y .1)) ≡ true
+module _ {d : ℕ} (c : Capacity) (t : Tally d) (h : fits c (nodeCount t) ≡ true) where
+  abbrev Fit : TallyReply d → Type 0
+  Fit y = fits c (nodeCount (y .1)) ≡ true
 
   fit-settle : (r : ℕ) (y : Tensor d × Set d) → Fit (settle c r y t)
-  unfolding settle accept refuse count
+  unfolding settle accept refuse nodeCount
   fit-settle r y = go (fits c (length (y .1))) refl
     where
       go : (b : Bool) → fits c (length (y .1)) ≡ b
@@ -109,11 +116,11 @@ module _ {d : ℕ} (c : Capacity) (t : Tally d) (h : fits c (count t) ≡ true) 
       go true e = e
       go false e = h
 
-  fit-register : (a : ℕ) (f : Tensor d → Reply d) → ((T : Tensor d) → Fit (f T)) → Fit (register t a f)
-  unfolding register holding refuse
+  fit-register : (a : ℕ) (f : Tensor d → TallyReply d) → ((T : Tensor d) → Fit (f T)) → Fit (withRegister t a f)
+  unfolding withRegister withTensor refuse
   fit-register a f k = go (getD (t .registers) a none)
     where
-      go : (o : Option (Tensor d)) → Fit (holding o t f)
+      go : (o : Option (Tensor d)) → Fit (withTensor o t f)
       go none = h
       go (some T) = k T
 
@@ -122,8 +129,8 @@ module _ {d : ℕ} (c : Capacity) (t : Tally d) (h : fits c (count t) ≡ true) 
   fit-low true r y = h
   fit-low false r y = fit-settle r y
 
-  pub answer-fits : (x : Call) → fits c (count (answer c x t .1)) ≡ true
-  unfolding answer accept refuse count collect
+  pub answer-fits : (x : Call) → fits c (nodeCount (answer c x t .1)) ≡ true
+  unfolding answer accept refuse nodeCount collect
   answer-fits (call.Put r w) = fit-settle r _
   answer-fits (call.Gate r g) = fit-settle r _
   answer-fits (call.Unit r n) = fit-settle r _
@@ -137,18 +144,19 @@ module _ {d : ℕ} (c : Capacity) (t : Tally d) (h : fits c (count t) ≡ true) 
   answer-fits (call.Refused r) = h
 
   -- "`put d w` .. Refuses 1, 2, 4."
-  pub put-accepted : (r w : ℕ) → answer c (call.Put r w) t .0 ≡ Ok (count t)
-  unfolding answer settle accept count
+  pub put-accepted : (r w : ℕ) → answer c (call.Put r w) t .0 ≡ Ok (nodeCount t)
+  unfolding answer settle accept nodeCount
   put-accepted r w = rw h
 
-pub run-fits : {d : ℕ} (c : Capacity) (room : ℕ) (ls : List Bytes) (r : Run d) → fits c (count (r .tally)) ≡ true
-    → fits c (count (run c room ls r .tally)) ≡ true
-unfolding run more stopped
+pub run-fits : {d : ℕ} (c : Capacity) (room : ℕ) (ls : List Bytes) (r : TallyRun d)
+    → fits c (nodeCount (r .tally)) ≡ true
+    → fits c (nodeCount (run c room ls r .tally)) ≡ true
+unfolding run withAnswer stoppedRun
 run-fits c room [] r h = h
 run-fits c room (l ∷ ls) r h =
-    go (leb (length (r .output) + 16) room) (run-fits c room ls (more r (answer c (readLine l) (r .tally))) (answer-fits c (r .tally) h (readLine l)))
+    go (leb (length (r .output) + answerRoom) room) (run-fits c room ls (withAnswer r (answer c (readLine l) (r .tally))) (answer-fits c (r .tally) h (readLine l)))
   where
-    go : (b : Bool) → fits c (count (run c room ls (more r (answer c (readLine l) (r .tally))) .tally)) ≡ true
-        → fits c (count (cond b (run c room ls (more r (answer c (readLine l) (r .tally)))) (stopped r) .tally)) ≡ true
+    go : (b : Bool) → fits c (nodeCount (run c room ls (withAnswer r (answer c (readLine l) (r .tally))) .tally)) ≡ true
+        → fits c (nodeCount (cond b (run c room ls (withAnswer r (answer c (readLine l) (r .tally)))) (stoppedRun r) .tally)) ≡ true
     go true p = p
     go false p = h

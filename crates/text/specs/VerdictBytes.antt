@@ -1,24 +1,25 @@
 -- What the bytes that a verdict writes say: demand 2 and document 01's "Verdicts", to a reader of the output alone (its
 -- theorems: VerdictBytesLaws).
+use mathlib.Core.List.{_++_, List}
 use mathlib.Core.Path.{_≡_}
-use mathlib.Core.Logic.{_≢_, _↔_, _⊎_}
-use mathlib.Core.List.{List, _++_}
+use mathlib.Core.Logic.{_⊎_, _≢_, _↔_}
 use mathlib.Core.Option.{some}
 use Prim.Native.Nat.{ℕ, _+_, _^_, _≤_, _<_}
-use lib.ListN.{length, take, drop}
+use lib.ListN.{take, length, drop}
 use Rattle.diagram.specs.Tensor.{Tensor, indices}
 use Rattle.diagram.specs.Node.{capacity}
-use Rattle.diagram.specs.declared.gate.Gate.{Gate}
 use Rattle.text.specs.Text.{Bytes, bytes}
-use Rattle.text.specs.Answers.{decimal}
-use Rattle.text.specs.Verdict.{faultNumber, lists, fault, readText}
-use Rattle.text.specs.Session.{Capacity, most, start}
-use Rattle.text.specs.VerdictRun.{sessionCalls, refused, perform, listTensor}
+use Rattle.text.specs.Print.{decimal}
+use Rattle.text.specs.Session.{Capacity, emptyTally, most}
+use Rattle.text.specs.Check.{lists, readText, fault}
+use Rattle.text.specs.Ruling.{faultNumber}
+use Rattle.text.specs.VerdictSession.{listTensor, sessionCalls, refusedAt, perform}
 use Rattle.text.specs.Product.{Operator, listMatrix}
+use Rattle.text.specs.declared.check.Fault.{Fault}
+use Rattle.diagram.specs.declared.gate.Gate.{Gate}
+use Rattle.text.specs.declared.check.Fault.the-variants.{Full}
+use Rattle.text.specs.declared.ruling.VerdictResult.{VerdictResult}
 use Rattle.text.specs.declared.call.Refusal.the-variants as refusal
-use Rattle.text.specs.declared.verdict.Fault.{Fault}
-use Rattle.text.specs.declared.verdict.Fault.the-variants.{Full}
-use Rattle.text.specs.declared.ruling.Verdict.{Verdict}
 
 -- "An answer's fields are parted by one tab, and it ends in LF.": `same`; `factor` and f; `differ`; "`no`, number,
 -- line counted from 1"
@@ -54,7 +55,7 @@ pub record ListsAre {X : Type 0} (Of : ℕ → List Gate → X → Type 0) (c : 
   pub gs : List Gate
   pub hs : List Gate
   pub good : readText text ≡ lists n gs hs
-  pub not-full : (line : ℕ) → perform {d = indices} c (sessionCalls n gs hs) start ≢ refused line refusal.Full
+  pub not-full : (line : ℕ) → perform {d = indices} c (sessionCalls n gs hs) emptyTally ≢ refusedAt line refusal.Full
   pub first : X
   pub second : X
   pub first-is : Of n gs first
@@ -67,7 +68,7 @@ pub record FullAt (c : Capacity) (text : Bytes) (line : ℕ) : Type 0 where
   pub gs : List Gate
   pub hs : List Gate
   pub good : readText text ≡ lists n gs hs
-  pub full : perform {d = indices} c (sessionCalls n gs hs) start ≡ refused line refusal.Full
+  pub full : perform {d = indices} c (sessionCalls n gs hs) emptyTally ≡ refusedAt line refusal.Full
 
 -- "All lines are read before any gate runs; the first faulty line decides.": the text's first fault is f at that line;
 -- or it is good and full there
@@ -75,14 +76,14 @@ abbrev pub RefusedAt : Capacity → Bytes → Fault → ℕ → Type 0
 RefusedAt c text f line = (readText text ≡ fault f line) ⊎ ((f ≡ Full) × FullAt c text line)
 
 -- the bytes written: the first of the output o', as many as the result says
-abbrev pub bytesOf : Verdict → Bytes → Bytes
+abbrev pub bytesOf : VerdictResult → Bytes → Bytes
 bytesOf r o' = take (r .bytes) o'
 
 -- The verdict on a text over a store s, for an output of 32 bytes or more: o as it was lent, o' as it is left. Two
 -- lists are compared by what they stand for: E A B says that A and B are equal, T f A B that A is f times B, f being a
 -- weight and not 0.
 pub record VerdictBytes {X : Type 0} (Of : ℕ → List Gate → X → Type 0) (E : X → X → Type 0) (T : ℕ → X → X → Type 0)
-    (text s o o' : Bytes) (r : Verdict) : Type 0 where
+    (text s o o' : Bytes) (r : VerdictResult) : Type 0 where
   -- "otherwise the code is 0, also with `no`. The result is code and bytes written; later bytes are untouched"
   pub code : r .code ≡ 0
   pub within : r .bytes ≤ length o'
@@ -110,7 +111,7 @@ pub record VerdictBytes {X : Type 0} (Of : ℕ → List Gate → X → Type 0) (
   pub one-of-four : OneOfFour (bytesOf r o')
 
 -- "Fewer than 32 output bytes returns 9 and writes nothing"
-pub record VerdictShort (o o' : Bytes) (r : Verdict) : Type 0 where
+pub record VerdictShort (o o' : Bytes) (r : VerdictResult) : Type 0 where
   pub code : r .code ≡ 9
   pub bytes : r .bytes ≡ 0
   pub unchanged : o' ≡ o

@@ -1,131 +1,43 @@
--- The sentences of VerdictBytes follow from `Gives`, which the running code promises: for every text, store and output.
-use mathlib.Core.Path.{_≡_, refl, ap, sym, subst, _∙_}
+-- The sentences of VerdictBytes follow from `VerdictEnsures`, which the running code promises: for every text, store
+-- and output.
+use mathlib.Core.Path.{_≡_, refl, sym, subst, _∙_, ap}
+use mathlib.Core.List.{List}
 use mathlib.Core.Logic.{_≢_, _↔_, _⊎_, inl, inr, Iff·trans}
-use mathlib.Core.List.{List, _++_}
 use mathlib.Core.Option.{Option, some}
-use Prim.Native.Nat.{ℕ, _+_, _^_, _≤_, _<_}
+use Prim.Native.Nat.{ℕ, _^_, _<_, _≤_}
 use native.Mathlib.Omega.{arith}
-use borrow.Author.Tests.{lt-ltb, le-ltb}
-use lib.ListN.{length, take, drop}
-use lib.Seq.{take-append-seam, drop-append-seam}
-use Rattle.diagram.specs.Tensor.{Tensor, indices}
+use lib.ListN.{length}
+use borrow.Author.Tests.{lt-ltb}
+use Rattle.diagram.specs.Tensor.{indices, Tensor}
 use Rattle.diagram.specs.Node.{capacity}
-use Rattle.diagram.specs.declared.gate.Gate.{Gate}
 use Rattle.text.specs.Text.{Bytes}
-use Rattle.text.specs.Answers.{decimal, written}
-use Rattle.text.specs.Print.{written-none}
-use Rattle.text.specs.Verdict.{Reading, lists, fault, readText, printedRuling}
-use Rattle.text.specs.Session.{Capacity, most, start}
-use Rattle.text.specs.VerdictRun.{sessionCalls, perform, refused, verdict, outcome}
-use Rattle.text.specs.Product.{listMatrix}
+use Rattle.text.specs.Limits.{verdictRoom}
+use Rattle.text.specs.Print.{decimal}
+use Rattle.text.specs.Session.{Capacity, most}
+use Rattle.text.specs.Check.{Reading, lists, fault, readText}
+use Rattle.text.specs.Ruling.{printedRuling}
+use Rattle.text.specs.VerdictSession.{rulingOn, verdictResult}
 use Rattle.text.specs.Agrees.{Agree}
-use Rattle.text.specs.VerdictMeaning.{NotFull, IsTimes, EqualMatrices, MatrixIsTimes}
-use Rattle.text.specs.VerdictMeaningLaws.{Meaning, verdict-means, verdict-matrices, verdict-refused, verdict-fault}
-use Rattle.text.specs.VerdictLineLaws.{fault-line, full-line}
-use Rattle.text.specs.VerdictBytes.{
-  sameLine,
-  factorLine,
-  differLine,
-  noLine,
-  OneOfFour,
-  IsTensorOf,
-  IsMatrixOf,
-  ListsAre,
-  RefusedAt,
-  VerdictBytes,
-  VerdictShort,
-}
-use Rattle.text.specs.PrintedLaws.{
-  decimal-injective,
-  decimal-exact,
-  prints-same,
-  prints-factor,
-  prints-differ,
-  prints-no,
-  printed-same,
-  printed-factor,
-  printed-differ,
-  printed-no,
-}
-use Rattle.text.specs.Judge.{Gives, gives-within}
-use Rattle.text.specs.declared.call.Refusal.the-variants as refusal
-use Rattle.text.specs.declared.verdict.Fault.{Fault}
-use Rattle.text.specs.declared.verdict.Fault.the-variants.{Full}
+use Rattle.text.specs.Product.{listMatrix}
+use Rattle.text.specs.VerdictMeaning.{Meaning, NotFull, IsTimes, EqualMatrices, MatrixIsTimes}
+use Rattle.text.specs.VerdictBytes.{ListsAre, sameLine, factorLine, differLine, noLine, OneOfFour, RefusedAt}
+use Rattle.text.specs.VerdictBytes.{IsTensorOf, IsMatrixOf, VerdictBytes, VerdictShort}
+use Rattle.text.specs.Judge.{VerdictEnsures}
+use Rattle.text.specs.PrintLaws.{written-none}
+use Rattle.text.specs.DecimalLaws.{decimal-injective, decimal-exact}
+use Rattle.text.specs.RulingBytesLaws.{prints-same, prints-factor, prints-differ, prints-no, printed-same}
+use Rattle.text.specs.RulingBytesLaws.{printed-factor, printed-differ, printed-no}
+use Rattle.text.specs.VerdictMeaningLaws.{verdict-refused, verdict-means, verdict-matrices}
+use Rattle.text.specs.VerdictFaultLaws.{verdict-fault}
+use Rattle.text.specs.JudgeLaws.{verdict-within}
+use Rattle.text.specs.VerdictOutputLaws.{theRuling, not-full, refused-at, line-most, factor-small, given-code}
+use Rattle.text.specs.VerdictOutputLaws.{given-bytes, given-rest}
+use Rattle.diagram.specs.declared.gate.Gate.{Gate}
 use Rattle.text.specs.declared.ruling.Ruling.{Ruling}
+use Rattle.text.specs.declared.check.Fault.{Fault}
+use Rattle.text.specs.declared.check.Fault.the-variants.{Full}
 use Rattle.text.specs.declared.ruling.Ruling.the-variants.{Same, Factor, Differ, No}
-use Rattle.text.specs.declared.ruling.Verdict.{Verdict}
-
--- What is written, from `Gives`.
-
-written-start : (o s : Bytes) → written o 0 s ≡ s ++ drop (length s) o
-unfolding written
-written-start o s = let z : 0 + length s ≡ length s = omega arith in rw z
-
-module _ {text s o o' : Bytes} {r : Verdict} (room : 32 ≤ length o) (g : Gives text s o o' r) where
-  abbrev answer : Bytes
-  answer = printedRuling (verdict indices (most (capacity s)) text)
-
-  given : outcome indices (most (capacity s)) (length o) text ≡ (0, answer)
-  unfolding outcome
-  given = rw (le-ltb _ _ room)
-
-  count : r .bytes ≡ length answer
-  count = g .bytes ∙ ap (λ (p : ℕ × Bytes). length (p .1)) given
-
-  left : o' ≡ answer ++ drop (length answer) o
-  left = g .output ∙ ap (λ (p : ℕ × Bytes). written o 0 (p .1)) given ∙ written-start o answer
-
-  given-code : r .code ≡ 0
-  given-code = g .code ∙ ap (λ (p : ℕ × Bytes). p .0) given
-
-  given-bytes : take (r .bytes) o' ≡ answer
-  given-bytes = rw (count, left) (take-append-seam answer (drop (length answer) o))
-
-  given-rest : drop (r .bytes) o' ≡ drop (r .bytes) o
-  given-rest = rw (count, left) (drop-append-seam answer (drop (length answer) o))
-
--- A refusal names the text's fault, or the line where a good text is full; any other ruling is of a good text that is
--- not full.
-
-module _ (c : Capacity) (text : Bytes) where
-  abbrev ruling : Ruling
-  ruling = verdict indices c text
-
-  not-full : {n : ℕ} {gs hs : List Gate} → readText text ≡ lists n gs hs
-      → ((line : ℕ) → perform {d = indices} c (sessionCalls n gs hs) start ≢ refused line refusal.Full) → NotFull c text
-  not-full e h line q = h line (verdict-refused c text e Full line .0 q .1)
-
-  refused-at : (f : Fault) (line : ℕ) → (ruling ≡ No f line) ↔ RefusedAt c text f line
-  refused-at f line = (λ q. to q (readText text) refl, from)
-    where
-      to : ruling ≡ No f line → (x : Reading) → readText text ≡ x → RefusedAt c text f line
-      to q (lists n gs hs) e =
-          let p = verdict-refused c text e f line .0 q in
-          inr (p .0, record { n = n; gs = gs; hs = hs; good = e; full = p .1 })
-      to q (fault g l) e =
-          let z : No g l ≡ No f line = sym (verdict-fault c text e) ∙ q in
-          let p : g ≡ f = cc in
-          let l' : l ≡ line = cc in
-          inl (rw (← p, ← l') e)
-
-      from : RefusedAt c text f line → ruling ≡ No f line
-      from (inl e) = verdict-fault c text e
-      from (inr (z, a)) = verdict-refused c text (a .good) f line .1 (z, a .full)
-
-  line-most : (f : Fault) (line : ℕ) → RefusedAt c text f line → line ≤ length text + 1
-  line-most f line (inl e) = fault-line text e
-  line-most f line (inr (z, a)) = omega (arith, full-line {d = indices} c text (a .good) (a .full))
-
-  -- a factor is a weight
-  factor-small : (f : ℕ) → ruling ≡ Factor f → f < 65537
-  factor-small f q = go (readText text) refl
-    where
-      no-refusal : (g : Fault) (line : ℕ) → ruling ≢ No g line
-      no-refusal g line p = let z : Factor f ≡ No g line = sym q ∙ p in let o : _≡_ {A = ℕ} 0 1 = cc in omega arith
-
-      go : (x : Reading) → readText text ≡ x → f < 65537
-      go (lists n gs hs) e = verdict-means c text e (no-refusal Full) .factor-of f .0 q .2 .weight
-      go (fault g line) e = absurd (no-refusal g line (verdict-fault c text e))
+use Rattle.text.specs.declared.ruling.VerdictResult.{VerdictResult}
 
 -- What two lists stand for, and what the verdict says of it
 
@@ -141,12 +53,12 @@ record Known {X : Type 0} (Of : ℕ → List Gate → X → Type 0) (E : X → X
 
 module _ {X : Type 0} (Of : ℕ → List Gate → X → Type 0) (E : X → X → Type 0) (T : ℕ → X → X → Type 0) (c : Capacity)
     (text : Bytes) (known : (n : ℕ) (gs hs : List Gate) → readText text ≡ lists n gs hs → NotFull c text
-    → Known Of E T (verdict indices c text) n gs hs) where
+    → Known Of E T (rulingOn indices c text) n gs hs) where
   abbrev Shown : (X → X → Type 0) → Type 0
-  Shown P = (n : ℕ) (gs hs : List Gate) (k : Known Of E T (ruling c text) n gs hs) → P (k .first) (k .second)
+  Shown P = (n : ℕ) (gs hs : List Gate) (k : Known Of E T (theRuling c text) n gs hs) → P (k .first) (k .second)
 
   -- from a ruling to the lists ..
-  lists-are : (P : X → X → Type 0) → ((f : Fault) (line : ℕ) → ruling c text ≢ No f line) → Shown P
+  lists-are : (P : X → X → Type 0) → ((f : Fault) (line : ℕ) → theRuling c text ≢ No f line) → Shown P
       → ListsAre Of c text P
   lists-are P h p = go (readText text) refl
     where
@@ -169,7 +81,7 @@ module _ {X : Type 0} (Of : ℕ → List Gate → X → Type 0) (E : X → X →
 
   -- .. and back
   ruled-by : (P : X → X → Type 0) (Q : Type 0)
-      → ((n : ℕ) (gs hs : List Gate) (k : Known Of E T (ruling c text) n gs hs) → P (k .first) (k .second) → Q)
+      → ((n : ℕ) (gs hs : List Gate) (k : Known Of E T (theRuling c text) n gs hs) → P (k .first) (k .second) → Q)
       → ListsAre Of c text P → Q
   ruled-by P Q h a =
       let k = known (a .n) (a .gs) (a .hs) (a .good) (not-full c text (a .good) (a .not-full)) in
@@ -177,25 +89,26 @@ module _ {X : Type 0} (Of : ℕ → List Gate → X → Type 0) (E : X → X →
       (subst (λ B. P (a .first) B) (k .second-only (a .second) (a .second-is)) (a .are)))
 
   exactly : (P : X → X → Type 0) (q : Ruling) → ((f : Fault) (line : ℕ) → q ≢ No f line)
-      → ((n : ℕ) (gs hs : List Gate) (k : Known Of E T (ruling c text) n gs hs) → (ruling c text ≡ q) ↔ P (k .first) (k .second))
-      → (ruling c text ≡ q) ↔ ListsAre Of c text P
+      → ((n : ℕ) (gs hs : List Gate) (k : Known Of E T (theRuling c text) n gs hs) → (theRuling c text ≡ q) ↔ P (k .first) (k .second))
+      → (theRuling c text ≡ q) ↔ ListsAre Of c text P
   exactly P q h t = (
     λ e. lists-are P (λ f line z. h f line (sym e ∙ z)) (λ n gs hs k. t n gs hs k .0 e),
-    ruled-by P (ruling c text ≡ q) (λ n gs hs k. t n gs hs k .1),
+    ruled-by P (theRuling c text ≡ q) (λ n gs hs k. t n gs hs k .1),
   )
 
-  same-ruled : (ruling c text ≡ Same) ↔ ListsAre Of c text E
+  same-ruled : (theRuling c text ≡ Same) ↔ ListsAre Of c text E
   same-ruled = exactly E Same (λ f line e. let z : _≡_ {A = ℕ} 0 1 = cc in omega arith) (λ n gs hs k. k .meaning .same)
 
-  differ-ruled : (ruling c text ≡ Differ) ↔ ListsAre Of c text (λ A B. (¬ E A B) × (¬ ((f : ℕ) × (T f A B ⊎ T f B A))))
+  differ-ruled : (theRuling c text ≡ Differ)
+      ↔ ListsAre Of c text (λ A B. (¬ E A B) × (¬ ((f : ℕ) × (T f A B ⊎ T f B A))))
   differ-ruled =
       exactly _ Differ (λ f line e. let z : _≡_ {A = ℕ} 0 1 = cc in omega arith) (λ n gs hs k. k .meaning .differ)
 
-  factor-of-ruled : (f : ℕ) → (ruling c text ≡ Factor f) ↔ ListsAre Of c text (λ A B. (¬ E A B) × (f ≢ 1) × T f A B)
+  factor-of-ruled : (f : ℕ) → (theRuling c text ≡ Factor f) ↔ ListsAre Of c text (λ A B. (¬ E A B) × (f ≢ 1) × T f A B)
   factor-of-ruled f =
       exactly _ (Factor f) (λ g line e. let z : _≡_ {A = ℕ} 0 1 = cc in omega arith) (λ n gs hs k. k .meaning .factor-of f)
 
-  factor-ruled : ((f : ℕ) × (ruling c text ≡ Factor f))
+  factor-ruled : ((f : ℕ) × (theRuling c text ≡ Factor f))
       ↔ ListsAre Of c text (λ A B. (¬ E A B) × ((f : ℕ) × (T f A B ⊎ T f B A)))
   factor-ruled = (
     λ p.
@@ -207,28 +120,28 @@ module _ {X : Type 0} (Of : ℕ → List Gate → X → Type 0) (E : X → X →
 
 -- The ruling by its bytes
 
-module _ (c : Capacity) (text : Bytes) {W : Bytes} (w : W ≡ printedRuling (verdict indices c text)) where
-  bytes-same : (W ≡ sameLine) ↔ (ruling c text ≡ Same)
-  bytes-same = (λ e. printed-same (ruling c text) (sym w ∙ e), λ q. w ∙ ap printedRuling q ∙ prints-same)
+module _ (c : Capacity) (text : Bytes) {W : Bytes} (w : W ≡ printedRuling (rulingOn indices c text)) where
+  bytes-same : (W ≡ sameLine) ↔ (theRuling c text ≡ Same)
+  bytes-same = (λ e. printed-same (theRuling c text) (sym w ∙ e), λ q. w ∙ ap printedRuling q ∙ prints-same)
 
-  bytes-differ : (W ≡ differLine) ↔ (ruling c text ≡ Differ)
-  bytes-differ = (λ e. printed-differ (ruling c text) (sym w ∙ e), λ q. w ∙ ap printedRuling q ∙ prints-differ)
+  bytes-differ : (W ≡ differLine) ↔ (theRuling c text ≡ Differ)
+  bytes-differ = (λ e. printed-differ (theRuling c text) (sym w ∙ e), λ q. w ∙ ap printedRuling q ∙ prints-differ)
 
-  bytes-factor : (f : ℕ) → (W ≡ factorLine f) ↔ (ruling c text ≡ Factor f)
+  bytes-factor : (f : ℕ) → (W ≡ factorLine f) ↔ (theRuling c text ≡ Factor f)
   bytes-factor f = (to, λ q. w ∙ ap printedRuling q ∙ prints-factor f)
     where
-      to : W ≡ factorLine f → ruling c text ≡ Factor f
+      to : W ≡ factorLine f → theRuling c text ≡ Factor f
       to e =
-          let p = printed-factor (ruling c text) f (sym w ∙ e) in
+          let p = printed-factor (theRuling c text) f (sym w ∙ e) in
           p .1 ∙ ap Factor (decimal-exact (p .0) f (omega (arith, factor-small c text (p .0) (p .1))) (p .2))
 
   bytes-no : length text < 2 ^ 64 → (f : Fault) (line : ℕ) → line < 10 ^ 20
-      → (W ≡ noLine f line) ↔ (ruling c text ≡ No f line)
+      → (W ≡ noLine f line) ↔ (theRuling c text ≡ No f line)
   bytes-no h f line b = (to, λ q. w ∙ ap printedRuling q ∙ prints-no f line)
     where
-      to : W ≡ noLine f line → ruling c text ≡ No f line
+      to : W ≡ noLine f line → theRuling c text ≡ No f line
       to e =
-          let p = printed-no (ruling c text) f line (sym w ∙ e) in
+          let p = printed-no (theRuling c text) f line (sym w ∙ e) in
           let m = line-most c text f (p .0) (refused-at c text f (p .0) .0 (p .1)) in
           p .1 ∙ ap (No f) (decimal-injective (p .0) line (omega (arith, m, h)) b (p .2))
 
@@ -237,15 +150,16 @@ module _ (c : Capacity) (text : Bytes) {W : Bytes} (w : W ≡ printedRuling (ver
   bytes-digits f line = (to, from)
     where
       to : W ≡ noLine f line → (l : ℕ) × (decimal l ≡ decimal line) × RefusedAt c text f l
-      to e = let p = printed-no (ruling c text) f line (sym w ∙ e) in (p .0, p .2, refused-at c text f (p .0) .0 (p .1))
+      to e =
+          let p = printed-no (theRuling c text) f line (sym w ∙ e) in (p .0, p .2, refused-at c text f (p .0) .0 (p .1))
 
       from : (l : ℕ) × (decimal l ≡ decimal line) × RefusedAt c text f l → W ≡ noLine f line
       from (l, d, a) = w ∙ ap printedRuling (refused-at c text f l .1 a) ∙ prints-no f l ∙ rw d
 
   bytes-four : OneOfFour W
-  bytes-four = go (ruling c text) refl
+  bytes-four = go (theRuling c text) refl
     where
-      go : (q : Ruling) → ruling c text ≡ q → OneOfFour W
+      go : (q : Ruling) → theRuling c text ≡ q → OneOfFour W
       go Same q = inl (w ∙ ap printedRuling q ∙ prints-same)
       go (Factor f) q = inr (inl (f, w ∙ ap printedRuling q ∙ prints-factor f))
       go Differ q = inr (inr (inl (w ∙ ap printedRuling q ∙ prints-differ)))
@@ -254,17 +168,18 @@ module _ (c : Capacity) (text : Bytes) {W : Bytes} (w : W ≡ printedRuling (ver
 some-factor : {A B : ℕ → Type 0} → ((f : ℕ) → A f ↔ B f) → ((f : ℕ) × A f) ↔ ((f : ℕ) × B f)
 some-factor h = (λ p. (p .0, h (p .0) .0 (p .1)), λ p. (p .0, h (p .0) .1 (p .1)))
 
-module _ {text s o o' : Bytes} {r : Verdict} (room : 32 ≤ length o) (g : Gives text s o o' r) where
+module _ {text s o o' : Bytes} {r : VerdictResult} (room : verdictRoom ≤ length o)
+    (g : VerdictEnsures text s o o' r) where
   bytes-say : {X : Type 0} (Of : ℕ → List Gate → X → Type 0) (E : X → X → Type 0) (T : ℕ → X → X → Type 0)
       → ((n : ℕ) (gs hs : List Gate) → readText text ≡ lists n gs hs → NotFull (most (capacity s)) text
-      → Known Of E T (verdict indices (most (capacity s)) text) n gs hs)
+      → Known Of E T (rulingOn indices (most (capacity s)) text) n gs hs)
       → VerdictBytes Of E T text s o o' r
   bytes-say Of E T known =
       let c = most (capacity s) in
       let w = given-bytes room g in
       record {
         code = given-code room g;
-        within = gives-within g;
+        within = verdict-within g;
         untouched = given-rest room g;
         same = Iff·trans (bytes-same c text w) (same-ruled Of E T c text known);
         factor = Iff·trans (some-factor (bytes-factor c text w)) (factor-ruled Of E T c text known);
@@ -277,7 +192,7 @@ module _ {text s o o' : Bytes} {r : Verdict} (room : 32 ≤ length o) (g : Gives
       }
 
   known-tensors : (n : ℕ) (gs hs : List Gate) → readText text ≡ lists n gs hs → NotFull (most (capacity s)) text
-      → Known IsTensorOf Agree IsTimes (verdict indices (most (capacity s)) text) n gs hs
+      → Known IsTensorOf Agree IsTimes (rulingOn indices (most (capacity s)) text) n gs hs
   known-tensors n gs hs e h =
       let v = verdict-means (most (capacity s)) text e h in
       record {
@@ -300,7 +215,7 @@ module _ {text s o o' : Bytes} {r : Verdict} (room : 32 ≤ length o) (g : Gives
       only p q = cc
 
   known-matrices : (n : ℕ) (gs hs : List Gate) → readText text ≡ lists n gs hs → NotFull (most (capacity s)) text
-      → Known IsMatrixOf EqualMatrices MatrixIsTimes (verdict indices (most (capacity s)) text) n gs hs
+      → Known IsMatrixOf EqualMatrices MatrixIsTimes (rulingOn indices (most (capacity s)) text) n gs hs
   known-matrices n gs hs e h =
       let v = verdict-matrices (most (capacity s)) text e h in
       record {
@@ -329,9 +244,14 @@ module _ {text s o o' : Bytes} {r : Verdict} (room : 32 ≤ length o) (g : Gives
   verdict-bytes-matrices = bytes-say IsMatrixOf EqualMatrices MatrixIsTimes known-matrices
 
 -- "Fewer than 32 output bytes returns 9 and writes nothing"
-pub verdict-bytes-short : {text s o o' : Bytes} {r : Verdict} → length o < 32 → Gives text s o o' r
+pub verdict-bytes-short : {text s o o' : Bytes} {r : VerdictResult} → length o < verdictRoom
+    → VerdictEnsures text s o o' r
     → VerdictShort o o' r
-unfolding outcome
+unfolding verdictResult
 verdict-bytes-short {o = o} h g =
     let z = lt-ltb (length o) 32 h in
-    record { code = rw z at (g .code); bytes = rw z at (g .bytes); unchanged = (rw z at (g .output)) ∙ written-none o 0 }
+    record {
+      code = rw z at (g .code);
+      bytes = rw z at (g .bytes);
+      unchanged = (rw z at (g .output)) ∙ written-none o 0;
+    }

@@ -1,32 +1,35 @@
--- What a verdict says of the two lists of a good text: demand 2, sentence by sentence, and document 01 (its theorems: VerdictMeaningLaws).
+-- What a verdict says of the two lists of a good text: demand 2, sentence by sentence, and document 01
+-- (its theorems: VerdictMeaningLaws).
+use mathlib.Core.Logic.{_≢_, _⊎_, _↔_}
 use mathlib.Core.Path.{_≡_}
-use mathlib.Core.Logic.{_≢_, _↔_, _⊎_}
 use mathlib.Core.List.{List}
 use mathlib.Core.Option.{some}
 use Prim.Native.Nat.{ℕ, _^_, _<_}
-use Rattle.diagram.specs.Weights.{toWeight, timesW}
-use Rattle.diagram.specs.Tensor.{Tensor, indices, value}
-use Rattle.diagram.specs.declared.gate.Gate.{Gate}
+use Rattle.diagram.specs.Tensor.{indices, Tensor, value}
+use Rattle.diagram.specs.Weights.{toWeight, timesW, modulus}
 use Rattle.text.specs.Text.{Bytes}
 use Rattle.text.specs.Session.{Capacity}
-use Rattle.text.specs.VerdictRun.{listTensor, verdict}
-use Rattle.text.specs.Product.{BasisState, Operator, listMatrix}
+use Rattle.text.specs.VerdictSession.{rulingOn, listTensor}
 use Rattle.text.specs.Agrees.{Agree}
-use Rattle.text.specs.declared.verdict.Fault.{Fault}
-use Rattle.text.specs.declared.verdict.Fault.the-variants.{Full}
-use Rattle.text.specs.declared.ruling.Ruling.the-variants.{Same, Factor, Differ, No}
+use Rattle.text.specs.Product.{BasisState, Operator, listMatrix}
+use Rattle.text.specs.declared.check.Fault.the-variants.{Full}
+use Rattle.text.specs.declared.ruling.Ruling.the-variants.{No, Same, Factor, Differ}
+use Rattle.diagram.specs.declared.gate.Gate.{Gate}
+use Rattle.text.specs.declared.check.Fault.{Fault}
+use Rattle.text.specs.declared.ruling.Ruling.{Ruling}
 
 -- the text is not refused as full: no call of its session is (verdict-refused in VerdictMeaningLaws)
 abbrev pub NotFull : Capacity → Bytes → Type 0
-NotFull c text = (line : ℕ) → verdict indices c text ≢ No Full line
+NotFull c text = (line : ℕ) → rulingOn indices c text ≢ No Full line
 
 -- A is f times B at every assignment, f being a weight ("the whole numbers 0 to 65536") and not 0
 pub record IsTimes (f : ℕ) (A B : Tensor indices) : Type 0 where
-  pub weight : f < 65537
+  pub weight : f < modulus
   pub nonzero : f ≢ 0
   pub values : (v : ℕ) → v < 2 ^ indices → value A v ≡ timesW (toWeight f) (value B v)
 
--- "one is a nonzero multiple of the other". Of zero this is zero alone, and two zeros agree: so "Zero against nonzero is `differ`."
+-- "one is a nonzero multiple of the other". Of zero this is zero alone, and two zeros agree: so "Zero against nonzero
+-- is `differ`."
 abbrev pub Multiples : Tensor indices → Tensor indices → Type 0
 Multiples A B = (f : ℕ) × (IsTimes f A B ⊎ IsTimes f B A)
 
@@ -38,14 +41,15 @@ pub record VerdictMeans (c : Capacity) (text : Bytes) (n : ℕ) (gs hs : List Ga
   pub first-is : listTensor indices n gs ≡ some first
   pub second-is : listTensor indices n hs ≡ some second
   -- "A verdict is "same" exactly when both lists' tensors agree at every assignment over document 01's field,
-  pub same : (verdict indices c text ≡ Same) ↔ Agree first second
+  pub same : (rulingOn indices c text ≡ Same) ↔ Agree first second
   -- "factor" exactly when they differ and one is a nonzero multiple of the other,
-  pub factor : ((f : ℕ) × (verdict indices c text ≡ Factor f)) ↔ ((¬ Agree first second) × Multiples first second)
+  pub factor : ((f : ℕ) × (rulingOn indices c text ≡ Factor f)) ↔ ((¬ Agree first second) × Multiples first second)
   -- else "differ""; and there is no other answer
-  pub differ : (verdict indices c text ≡ Differ) ↔ ((¬ Agree first second) × (¬ Multiples first second))
-  pub no-other : (f : Fault) (line : ℕ) → verdict indices c text ≢ No f line
+  pub differ : (rulingOn indices c text ≡ Differ) ↔ ((¬ Agree first second) × (¬ Multiples first second))
+  pub no-other : (f : Fault) (line : ℕ) → rulingOn indices c text ≢ No f line
   -- which f: "`factor` and f where a is f times b, f not 0 or 1"
-  pub factor-of : (f : ℕ) → (verdict indices c text ≡ Factor f) ↔ ((¬ Agree first second) × (f ≢ 1) × IsTimes f first second)
+  pub factor-of : (f : ℕ)
+      → (rulingOn indices c text ≡ Factor f) ↔ ((¬ Agree first second) × (f ≢ 1) × IsTimes f first second)
 
 -- The same in terms of the lists' matrices.
 
@@ -55,7 +59,7 @@ EqualMatrices M N = (o i : BasisState) → M o i ≡ N o i
 
 -- M is f times N at every output and input state, f being a weight and not 0
 pub record MatrixIsTimes (f : ℕ) (M N : Operator) : Type 0 where
-  pub weight : f < 65537
+  pub weight : f < modulus
   pub nonzero : f ≢ 0
   pub entries : (o i : BasisState) → M o i ≡ timesW (toWeight f) (N o i)
 
@@ -64,10 +68,19 @@ MatrixMultiples M N = (f : ℕ) × (MatrixIsTimes f M N ⊎ MatrixIsTimes f N M)
 
 -- each of the above, with the product of a list's gates' matrices for its tensor
 pub record VerdictMatrices (c : Capacity) (text : Bytes) (n : ℕ) (gs hs : List Gate) : Type 0 where
-  pub same : (verdict indices c text ≡ Same) ↔ EqualMatrices (listMatrix n gs) (listMatrix n hs)
-  pub factor : ((f : ℕ) × (verdict indices c text ≡ Factor f))
+  pub same : (rulingOn indices c text ≡ Same) ↔ EqualMatrices (listMatrix n gs) (listMatrix n hs)
+  pub factor : ((f : ℕ) × (rulingOn indices c text ≡ Factor f))
       ↔ ((¬ EqualMatrices (listMatrix n gs) (listMatrix n hs)) × MatrixMultiples (listMatrix n gs) (listMatrix n hs))
-  pub differ : (verdict indices c text ≡ Differ)
-      ↔ ((¬ EqualMatrices (listMatrix n gs) (listMatrix n hs)) × (¬ MatrixMultiples (listMatrix n gs) (listMatrix n hs)))
-  pub factor-of : (f : ℕ) → (verdict indices c text ≡ Factor f)
-      ↔ ((¬ EqualMatrices (listMatrix n gs) (listMatrix n hs)) × (f ≢ 1) × MatrixIsTimes f (listMatrix n gs) (listMatrix n hs))
+  pub differ : (rulingOn indices c text ≡ Differ)
+      ↔ ((¬ EqualMatrices (listMatrix n gs) (listMatrix n hs))
+      × (¬ MatrixMultiples (listMatrix n gs) (listMatrix n hs)))
+  pub factor-of : (f : ℕ) → (rulingOn indices c text ≡ Factor f)
+      ↔ ((¬ EqualMatrices (listMatrix n gs) (listMatrix n hs))
+      × (f ≢ 1) × MatrixIsTimes f (listMatrix n gs) (listMatrix n hs))
+
+pub record Meaning (r : Ruling) (E : Type 0) (M N : ℕ → Type 0) : Type 0 where
+  pub same : (r ≡ Same) ↔ E
+  pub factor : ((f : ℕ) × (r ≡ Factor f)) ↔ ((¬ E) × ((f : ℕ) × (M f ⊎ N f)))
+  pub differ : (r ≡ Differ) ↔ ((¬ E) × (¬ ((f : ℕ) × (M f ⊎ N f))))
+  pub no-other : (f : Fault) (line : ℕ) → r ≢ No f line
+  pub factor-of : (f : ℕ) → (r ≡ Factor f) ↔ ((¬ E) × (f ≢ 1) × M f)

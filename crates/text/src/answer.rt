@@ -1,25 +1,28 @@
 // A session's answers, and their printed bytes.
 use crate::call::Refusal;
+use crate::limits::NodeCount;
+use crate::limits::Weight;
 use crate::print;
 ghost use mathlib.Core.Path.{_≡_};
 ghost use Prim.Native.Nat.{_+_, _≤_, _<_};
 ghost use lib.ListN.{length};
-ghost use Rattle.text.specs.Calls.{refusalNumber};
-ghost use Rattle.text.specs.Answers.{printed, Small, Printed};
-ghost use Rattle.text.specs.Print.{Wrote, ended};
+ghost use Rattle.text.specs.Limits.{answerRoom, lastWeight};
+ghost use Rattle.text.specs.Call.{refusalNumber};
+ghost use Rattle.text.specs.Answer.{printed, SmallAnswer, AnswerWritten, labelledLine};
+ghost use Rattle.text.specs.Print.{Wrote};
 
 pub enum Answer {
-    Ok(usize),
+    Ok(NodeCount),
     No(Refusal),
-    Value(usize),
+    Value(Weight),
     Same,
-    Factor(usize),
+    Factor(Weight),
     Differ,
 }
 
 // Document 01's number of a refusal.
 pub fn number_of(r: Refusal) -> usize
-    ensures { λ n. ⌜ (n ≡ refusalNumber r) × (n ≤ 65536) ⌝ }
+    ensures { λ n. ⌜ (n ≡ refusalNumber r) × (n ≤ lastWeight) ⌝ }
 {
     match r {
         Refusal::Malformed => 1,
@@ -35,15 +38,15 @@ pub fn number_of(r: Refusal) -> usize
 
 // Puts a word with its tab, and a number, as a line; the answer is the place after it.
 fn pair(out: &mut [u8], at: usize, word: &[u8], n: usize) -> usize
-    requires { ⌜ (at + 16 ≤ length (now out)) × ((length (now word) < 10) × (n ≤ 65536)) ⌝ }
-    ensures { λ r. ⌜ Wrote (now (out .entry)) at (ended (now (word .entry)) n) (now (out .exit)) r ⌝ }
+    requires { ⌜ (at + answerRoom ≤ length (now out)) × ((length (now word) < 10) × (n ≤ lastWeight)) ⌝ }
+    ensures { λ r. ⌜ Wrote (now (out .entry)) at (labelledLine (now (word .entry)) n) (now (out .exit)) r ⌝ }
 {
     let e = print::labelled(out, at, word, n);
     print::bytes(out, e, b"\n")
 }
 
 fn put(out: &mut [u8], at: usize, answer: Answer) -> usize
-    requires { ⌜ (at + 16 ≤ length (now out)) × Small answer ⌝ }
+    requires { ⌜ (at + answerRoom ≤ length (now out)) × SmallAnswer answer ⌝ }
     ensures { λ r. ⌜ Wrote (now (out .entry)) at (printed answer) (now (out .exit)) r ⌝ }
 {
     match answer {
@@ -58,8 +61,8 @@ fn put(out: &mut [u8], at: usize, answer: Answer) -> usize
 
 // Writes an answer at a place, and answers the place after it.
 pub(crate) fn write(out: &mut [u8], at: usize, answer: Answer) -> usize
-    requires { ⌜ (at + 16 ≤ length (now out)) × Small answer ⌝ }
-    ensures { λ r. ⌜ Printed (now (out .entry)) at answer (now (out .exit)) r ⌝ }
+    requires { ⌜ (at + answerRoom ≤ length (now out)) × SmallAnswer answer ⌝ }
+    ensures { λ r. ⌜ AnswerWritten (now (out .entry)) at answer (now (out .exit)) r ⌝ }
 {
     put(out, at, answer)
 }

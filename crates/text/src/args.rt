@@ -5,8 +5,9 @@ use crate::split;
 ghost use mathlib.Core.Path.{_≡_};
 ghost use Prim.Native.Nat.{_≤_};
 ghost use lib.ListN.{length};
-ghost use Rattle.text.specs.Split.{rest};
-ghost use Rattle.text.specs.Calls.{push as push1, with as with1, numbers};
+ghost use Rattle.text.specs.Limits.{mostDigits};
+ghost use Rattle.text.specs.Split.{fieldsAfter};
+ghost use Rattle.text.specs.Args.{push as push1, pushNumber, numbers};
 
 // At most four numbers; Wrong where one is malformed or there are more, so that 1 comes before every other refusal.
 pub enum Args {
@@ -31,8 +32,8 @@ fn push(args: Args, v: usize) -> Args
     }
 }
 
-fn with(args: Args, n: Number) -> Args
-    ensures { λ r. ⌜ r ≡ with1 args n ⌝ }
+fn push_number(args: Args, n: Number) -> Args
+    ensures { λ r. ⌜ r ≡ pushNumber args n ⌝ }
 {
     match n {
         Number::Malformed => Args::Wrong,
@@ -42,15 +43,15 @@ fn with(args: Args, n: Number) -> Args
 
 // The numbers, of at most `most` digits, in the fields after the one that ends at e.
 pub(crate) fn after(line: &[u8], e: usize, most: usize) -> Args
-    requires { ⌜ (e ≤ length (now line)) × (most ≤ 8) ⌝ }
-    ensures { λ r. ⌜ r ≡ numbers most Args.None (rest (now (line .entry)) e) ⌝ }
+    requires { ⌜ (e ≤ length (now line)) × (most ≤ mostDigits) ⌝ }
+    ensures { λ r. ⌜ r ≡ numbers most Args.None (fieldsAfter (now (line .entry)) e) ⌝ }
 {
     let mut args = Args::None;
     let mut at = e;
     while at < line.len() {
         let a = at + 1;
         at = split::end(line, a, b'\t');
-        args = with(args, number::read(&line[a..at], most));
+        args = push_number(args, number::read(&line[a..at], most));
     }
     args
 }

@@ -1,9 +1,20 @@
 // Calls: the words and numbers of a line, checked field by field from the left.
 use crate::args::Args;
+use crate::limits::Assignment;
+use crate::limits::Index;
+use crate::limits::LAST_INDEX;
+use crate::limits::LAST_MASK;
+use crate::limits::LAST_REGISTER;
+use crate::limits::LAST_WEIGHT;
+use crate::limits::MOST_QUBITS;
+use crate::limits::Mask;
+use crate::limits::QubitCount;
+use crate::limits::RegisterNumber;
+use crate::limits::Weight;
 use crate::words::Word;
 use diagram::gate::Gate;
 ghost use mathlib.Core.Path.{_≡_};
-ghost use Rattle.text.specs.Calls.{within, register, callOf};
+ghost use Rattle.text.specs.Call.{checkRange, checkRegister, callOf};
 
 pub enum Refusal {
     Malformed,
@@ -18,22 +29,22 @@ pub enum Refusal {
 
 // A call with its registers, weights, masks, indices and assignments, in document 01's order; or a refusal.
 pub enum Call {
-    Put(usize, usize),
-    Gate(usize, Gate),
-    Unit(usize, usize),
-    Add(usize, usize, usize),
-    Cont(usize, usize, usize, usize),
-    Low(usize, usize, usize),
-    Drop(usize),
+    Put(RegisterNumber, Weight),
+    Gate(RegisterNumber, Gate),
+    Unit(RegisterNumber, QubitCount),
+    Add(RegisterNumber, RegisterNumber, RegisterNumber),
+    Cont(RegisterNumber, RegisterNumber, RegisterNumber, Mask),
+    Low(RegisterNumber, RegisterNumber, Index),
+    Drop(RegisterNumber),
     Collect,
-    At(usize, usize),
-    Cmp(usize, usize),
+    At(RegisterNumber, Assignment),
+    Cmp(RegisterNumber, RegisterNumber),
     Refused(Refusal),
 }
 
 // The call, if x is between least and most.
-pub(crate) fn bounded(x: usize, least: usize, most: usize, call: Call) -> Call
-    ensures { λ r. ⌜ r ≡ within x least most call ⌝ }
+pub(crate) fn check_range(x: usize, least: usize, most: usize, call: Call) -> Call
+    ensures { λ r. ⌜ r ≡ checkRange x least most call ⌝ }
 {
     if x < least {
         return Call::Refused(Refusal::Range);
@@ -45,10 +56,10 @@ pub(crate) fn bounded(x: usize, least: usize, most: usize, call: Call) -> Call
 }
 
 // The call, if there is a register d.
-pub(crate) fn registered(d: usize, call: Call) -> Call
-    ensures { λ r. ⌜ r ≡ register d call ⌝ }
+pub(crate) fn check_register(d: RegisterNumber, call: Call) -> Call
+    ensures { λ r. ⌜ r ≡ checkRegister d call ⌝ }
 {
-    if 15 < d {
+    if LAST_REGISTER < d {
         return Call::Refused(Refusal::Register);
     }
     call
@@ -60,7 +71,7 @@ fn put(args: Args) -> Call
     let Args::Two(d, w) = args else {
         return Call::Refused(Refusal::Malformed);
     };
-    registered(d, bounded(w, 0, 65536, Call::Put(d, w)))
+    check_register(d, check_range(w, 0, LAST_WEIGHT, Call::Put(d, w)))
 }
 
 fn unit(args: Args) -> Call
@@ -69,7 +80,7 @@ fn unit(args: Args) -> Call
     let Args::Two(d, n) = args else {
         return Call::Refused(Refusal::Malformed);
     };
-    registered(d, bounded(n, 1, 8, Call::Unit(d, n)))
+    check_register(d, check_range(n, 1, MOST_QUBITS, Call::Unit(d, n)))
 }
 
 fn add(args: Args) -> Call
@@ -78,7 +89,7 @@ fn add(args: Args) -> Call
     let Args::Three(d, a, b) = args else {
         return Call::Refused(Refusal::Malformed);
     };
-    registered(d, registered(a, registered(b, Call::Add(d, a, b))))
+    check_register(d, check_register(a, check_register(b, Call::Add(d, a, b))))
 }
 
 fn cont(args: Args) -> Call
@@ -87,8 +98,8 @@ fn cont(args: Args) -> Call
     let Args::Four(d, a, b, m) = args else {
         return Call::Refused(Refusal::Malformed);
     };
-    let masked = bounded(m, 0, 16777215, Call::Cont(d, a, b, m));
-    registered(d, registered(a, registered(b, masked)))
+    let masked = check_range(m, 0, LAST_MASK, Call::Cont(d, a, b, m));
+    check_register(d, check_register(a, check_register(b, masked)))
 }
 
 fn low(args: Args) -> Call
@@ -97,7 +108,10 @@ fn low(args: Args) -> Call
     let Args::Three(d, a, k) = args else {
         return Call::Refused(Refusal::Malformed);
     };
-    registered(d, registered(a, bounded(k, 1, 23, Call::Low(d, a, k))))
+    check_register(
+        d,
+        check_register(a, check_range(k, 1, LAST_INDEX, Call::Low(d, a, k))),
+    )
 }
 
 fn drop(args: Args) -> Call
@@ -106,7 +120,7 @@ fn drop(args: Args) -> Call
     let Args::One(a) = args else {
         return Call::Refused(Refusal::Malformed);
     };
-    registered(a, Call::Drop(a))
+    check_register(a, Call::Drop(a))
 }
 
 fn collect(args: Args) -> Call
@@ -125,7 +139,7 @@ fn at(args: Args) -> Call
     let Args::Two(a, v) = args else {
         return Call::Refused(Refusal::Malformed);
     };
-    registered(a, bounded(v, 0, 16777215, Call::At(a, v)))
+    check_register(a, check_range(v, 0, LAST_MASK, Call::At(a, v)))
 }
 
 fn cmp(args: Args) -> Call
@@ -134,7 +148,7 @@ fn cmp(args: Args) -> Call
     let Args::Two(a, b) = args else {
         return Call::Refused(Refusal::Malformed);
     };
-    registered(a, registered(b, Call::Cmp(a, b)))
+    check_register(a, check_register(b, Call::Cmp(a, b)))
 }
 
 // The call of a word, other than `gate`, with these numbers.

@@ -1,14 +1,16 @@
 // What a session holds between two lines, and how a call that sets a register ends.
 use crate::answer::Answer;
 use crate::call::Refusal;
-use diagram::join::Made;
+use crate::limits::RegisterNumber;
+use diagram::join::Outcome;
 use diagram::make::State;
 use diagram::registers;
 use diagram::registers::Registers;
 use diagram::restore;
 ghost use Prim.Native.Nat.{_<_};
-ghost use Rattle.diagram.specs.Restore.{Left};
-ghost use Rattle.text.specs.Engine.{Started, Refuses, RollsBack, Leaves, Settles};
+ghost use Rattle.diagram.specs.Restore.{RollbackRequires};
+ghost use Rattle.text.specs.Limits.{registerCount};
+ghost use Rattle.text.specs.Engine.{EngineStartEnsures, RefuseEnsures, RollBackEnsures, SettleRequires, SettleEnsures};
 
 // The nodes are in the store; this is the rest.
 pub struct Engine {
@@ -24,7 +26,7 @@ pub struct Reply {
 
 // "A session starts with no nodes and empty registers."
 pub fn start(store: &mut [u8], cache: &mut [u64]) -> Engine
-    ensures { λ r. ⌜ Started (now (cache .exit)) (now (store .exit)) r ⌝ }
+    ensures { λ r. ⌜ EngineStartEnsures (now (cache .exit)) (now (store .exit)) r ⌝ }
 {
     let state = restore::start(store, cache);
     let registers = registers::empty();
@@ -33,7 +35,7 @@ pub fn start(store: &mut [u8], cache: &mut [u64]) -> Engine
 
 // Nothing was begun.
 pub(crate) fn refuse(engine: Engine, why: Refusal) -> Reply
-    ensures { λ r. ⌜ Refuses engine why r ⌝ }
+    ensures { λ r. ⌜ RefuseEnsures engine why r ⌝ }
 {
     let answer = Answer::No(why);
     Reply { answer, engine }
@@ -41,8 +43,8 @@ pub(crate) fn refuse(engine: Engine, why: Refusal) -> Reply
 
 // 8: the nodes as before the call, and nothing that it remembered is used.
 fn roll_back(store: &mut [u8], cache: &mut [u64], engine: Engine) -> Reply
-    requires { ⌜ Left (now cache) (now store) (engine .state) ⌝ }
-    ensures { λ r. ⌜ RollsBack (now (cache .exit)) (now (store .entry)) (now (store .exit)) engine r ⌝ }
+    requires { ⌜ RollbackRequires (now cache) (now store) (engine .state) ⌝ }
+    ensures { λ r. ⌜ RollBackEnsures (now (cache .exit)) (now (store .entry)) (now (store .exit)) engine r ⌝ }
 {
     let state = restore::rollback(store, cache, engine.state);
     let registers = engine.registers;
@@ -55,13 +57,14 @@ pub(crate) fn settle(
     store: &mut [u8],
     cache: &mut [u64],
     engine: Engine,
-    d: usize,
-    made: Made,
+    d: RegisterNumber,
+    made: Outcome,
 ) -> Reply
-    requires { ⌜ Leaves (now cache) (now store) (engine .state) made × (d < 16) ⌝ }
-    ensures { λ r. ⌜ Settles (now (cache .entry)) (now (store .entry)) (now (cache .exit)) (now (store .exit)) engine d made r ⌝ }
+    requires { ⌜ SettleRequires (now cache) (now store) (engine .state) made × (d < registerCount) ⌝ }
+    ensures { λ r. ⌜ SettleEnsures (now (cache .entry)) (now (store .entry)) (now (cache .exit)) (now (store .exit))
+        engine d made r ⌝ }
 {
-    let Made::Edge(e, state) = made else {
+    let Outcome::Edge(e, state) = made else {
         return roll_back(store, cache, engine);
     };
     let registers = registers::put(engine.registers, d, e);

@@ -4,6 +4,10 @@ use crate::args::Args;
 use crate::call;
 use crate::call::Call;
 use crate::call::Refusal;
+use crate::limits::LAST_QUBIT;
+use crate::limits::MOST_DIGITS;
+use crate::limits::QubitNumber;
+use crate::limits::RegisterNumber;
 use crate::names;
 use crate::names::Named;
 use crate::number;
@@ -12,12 +16,13 @@ use crate::split;
 ghost use mathlib.Core.Path.{_≡_};
 ghost use Prim.Native.Nat.{_≤_};
 ghost use lib.ListN.{length};
-ghost use Rattle.text.specs.Split.{rest};
-ghost use Rattle.text.specs.Calls.{apart, onOne, onTwo, gateOf, gateFields};
+ghost use Rattle.text.specs.Split.{fieldsAfter};
+ghost use Rattle.text.specs.Gate.{oneQubitCall, twoQubitCall, gateCallOf, gateCallFields};
+ghost use Rattle.text.specs.Call.{checkApart};
 
 // The call, if the qubits differ.
-fn differing(p: usize, q: usize, call: Call) -> Call
-    ensures { λ r. ⌜ r ≡ apart p q call ⌝ }
+fn check_apart(p: QubitNumber, q: QubitNumber, call: Call) -> Call
+    ensures { λ r. ⌜ r ≡ checkApart p q call ⌝ }
 {
     if p == q {
         return Call::Refused(Refusal::Equal);
@@ -25,36 +30,39 @@ fn differing(p: usize, q: usize, call: Call) -> Call
     call
 }
 
-fn on_one(d: usize, q: usize, name: Named) -> Call
-    ensures { λ r. ⌜ r ≡ onOne d q name ⌝ }
+fn one_qubit_call(d: RegisterNumber, q: QubitNumber, name: Named) -> Call
+    ensures { λ r. ⌜ r ≡ oneQubitCall d q name ⌝ }
 {
     match name {
         Named::Unknown => Call::Refused(Refusal::Name),
-        Named::Gate(g) => call::bounded(q, 0, 7, Call::Gate(d, g)),
+        Named::Gate(g) => call::check_range(q, 0, LAST_QUBIT, Call::Gate(d, g)),
     }
 }
 
-fn on_two(d: usize, p: usize, q: usize, name: Named) -> Call
-    ensures { λ r. ⌜ r ≡ onTwo d p q name ⌝ }
+fn two_qubit_call(d: RegisterNumber, p: QubitNumber, q: QubitNumber, name: Named) -> Call
+    ensures { λ r. ⌜ r ≡ twoQubitCall d p q name ⌝ }
 {
     match name {
         Named::Unknown => Call::Refused(Refusal::Name),
         Named::Gate(g) => {
-            let apart = differing(p, q, Call::Gate(d, g));
-            call::bounded(p, 0, 7, call::bounded(q, 0, 7, apart))
+            let apart = check_apart(p, q, Call::Gate(d, g));
+            call::check_range(p, 0, LAST_QUBIT, call::check_range(q, 0, LAST_QUBIT, apart))
         }
     }
 }
 
 fn make(d: Number, name: &[u8], qubits: Args) -> Call
-    ensures { λ r. ⌜ r ≡ gateOf d (now (name .entry)) qubits ⌝ }
+    ensures { λ r. ⌜ r ≡ gateCallOf d (now (name .entry)) qubits ⌝ }
 {
     let Number::Of(d) = d else {
         return Call::Refused(Refusal::Malformed);
     };
     match qubits {
-        Args::One(q) => call::registered(d, on_one(d, q, names::one_qubit(name, q))),
-        Args::Two(p, q) => call::registered(d, on_two(d, p, q, names::two_qubits(name, p, q))),
+        Args::One(q) => call::check_register(d, one_qubit_call(d, q, names::one_qubit(name, q))),
+        Args::Two(p, q) => call::check_register(
+            d,
+            two_qubit_call(d, p, q, names::two_qubits(name, p, q)),
+        ),
         _ => Call::Refused(Refusal::Malformed),
     }
 }
@@ -62,7 +70,7 @@ fn make(d: Number, name: &[u8], qubits: Args) -> Call
 // The gate call whose word ends at e.
 pub(crate) fn read(line: &[u8], e: usize) -> Call
     requires { ⌜ e ≤ length (now line) ⌝ }
-    ensures { λ r. ⌜ r ≡ gateFields (rest (now (line .entry)) e) ⌝ }
+    ensures { λ r. ⌜ r ≡ gateCallFields (fieldsAfter (now (line .entry)) e) ⌝ }
 {
     if line.len() <= e {
         return Call::Refused(Refusal::Malformed);
@@ -74,7 +82,7 @@ pub(crate) fn read(line: &[u8], e: usize) -> Call
     }
     let b = f + 1;
     let g = split::end(line, b, b'\t');
-    let d = number::read(&line[a..f], 8);
-    let qubits = args::after(line, g, 8);
+    let d = number::read(&line[a..f], MOST_DIGITS);
+    let qubits = args::after(line, g, MOST_DIGITS);
     make(d, &line[b..g], qubits)
 }

@@ -1,27 +1,32 @@
-// The verdict on a text (document 01, "Verdicts"): every line is read, both lists are run, and their registers are compared.
+// The verdict on a text (document 01, "Verdicts"): every line is read, both lists are run, and their registers are
+// compared.
 use crate::answer::Answer;
+use crate::check;
+use crate::check::Checked;
+use crate::check::Fault;
 use crate::engine;
 use crate::engine::Engine;
+use crate::limits::LineNumber;
+use crate::limits::QubitCount;
+use crate::limits::VERDICT_ROOM;
 use crate::list;
-use crate::list::Stage;
+use crate::list::ListState;
 use crate::respond;
 use crate::ruling;
 use crate::ruling::Ruling;
-use crate::ruling::Verdict;
-use crate::verdict;
-use crate::verdict::Checked;
-use crate::verdict::Fault;
+use crate::ruling::VerdictResult;
 ghost use mathlib.Core.Path.{_≡_};
 ghost use Prim.Native.Nat.{_≤_};
-ghost use Rattle.diagram.specs.Registers.{Registered};
-ghost use Rattle.diagram.specs.Standing.{Standing};
-ghost use Rattle.text.specs.Lists.{GoodText};
-ghost use Rattle.text.specs.Stage.{Listed};
-ghost use Rattle.text.specs.VerdictRun.{rulingOf};
-ghost use Rattle.text.specs.Judge.{Rules, Seconds, Judges, Gives};
+ghost use Rattle.diagram.specs.Registers.{RegistersValid};
+ghost use Rattle.text.specs.Limits.{mostQubits};
+ghost use Rattle.text.specs.Check.{GoodText};
+ghost use Rattle.text.specs.List.{gateList, ListRequires};
+ghost use Rattle.text.specs.VerdictSession.{rulingOfAnswer};
+ghost use Rattle.text.specs.Judge.{CompareEnsures, SecondEnsures, JudgeEnsures, VerdictEnsures};
+ghost use Rattle.text.specs.Engine.{EngineInvariant};
 
 fn ruling_of(answer: Answer) -> Ruling
-    ensures { λ r. ⌜ r ≡ rulingOf answer ⌝ }
+    ensures { λ r. ⌜ r ≡ rulingOfAnswer answer ⌝ }
 {
     match answer {
         Answer::Ok(_) => Ruling::Differ,
@@ -34,9 +39,9 @@ fn ruling_of(answer: Answer) -> Ruling
 }
 
 // "then `cmp 0 1`"
-fn compared(engine: Engine) -> Ruling
-    requires { ⌜ Registered (engine .state .count) (engine .registers .all) ⌝ }
-    ensures { λ r. ⌜ Rules engine r ⌝ }
+fn compare(engine: Engine) -> Ruling
+    requires { ⌜ RegistersValid (engine .state .count) (engine .registers .all) ⌝ }
+    ensures { λ r. ⌜ CompareEnsures engine r ⌝ }
 {
     let reply = respond::cmp(engine, 0, 1);
     let answer = reply.answer;
@@ -48,18 +53,19 @@ fn second(
     text: &[u8],
     store: &mut [u8],
     cache: &mut [u64],
-    at: Stage,
-    n: usize,
+    at: ListState,
+    n: QubitCount,
     count: usize,
 ) -> Ruling
-    requires { ⌜ Standing (now cache) (now store) (at .engine .state) (at .engine .registers .all) × (Listed (now text) n count at × ((1 ≤ n) × (n ≤ 8))) ⌝ }
-    ensures { λ r. ⌜ Seconds (now (text .entry)) n count (now (store .entry)) at r ⌝ }
+    requires { ⌜ EngineInvariant (now cache) (now store) (at .engine) ×
+        (ListRequires (gateList (now text) n 1 count) at × ((1 ≤ n) × (n ≤ mostQubits))) ⌝ }
+    ensures { λ r. ⌜ SecondEnsures (gateList (now (text .entry)) n 1 count) (now (store .entry)) at r ⌝ }
 {
     let last = list::run(text, store, cache, at, n, 1, count);
     if last.refused {
         return Ruling::No(Fault::Full, last.line);
     }
-    compared(last.engine)
+    compare(last.engine)
 }
 
 // Both lists of a good text, whose `=` is at the line `parting`, of `count` lines.
@@ -67,16 +73,16 @@ fn run(
     text: &[u8],
     store: &mut [u8],
     cache: &mut [u64],
-    n: usize,
-    parting: usize,
+    n: QubitCount,
+    parting: LineNumber,
     count: usize,
 ) -> Ruling
-    requires { ⌜ GoodText (now text) n parting count × ((1 ≤ n) × (n ≤ 8)) ⌝ }
-    ensures { λ r. ⌜ Judges (now (text .entry)) (now (store .entry)) r ⌝ }
+    requires { ⌜ GoodText (now text) n parting count × ((1 ≤ n) × (n ≤ mostQubits)) ⌝ }
+    ensures { λ r. ⌜ JudgeEnsures (now (text .entry)) (now (store .entry)) r ⌝ }
 {
     let engine = engine::start(store, cache);
     let refused = false;
-    let at = Stage {
+    let at = ListState {
         refused,
         line: 0,
         place: 0,
@@ -91,22 +97,23 @@ fn run(
 
 // "All lines are read before any gate runs; the first faulty line decides."
 fn judge(text: &[u8], store: &mut [u8], cache: &mut [u64]) -> Ruling
-    ensures { λ r. ⌜ Judges (now (text .entry)) (now (store .entry)) r ⌝ }
+    ensures { λ r. ⌜ JudgeEnsures (now (text .entry)) (now (store .entry)) r ⌝ }
 {
-    match verdict::check(text) {
+    match check::check(text) {
         Checked::Faulty(f, line) => Ruling::No(f, line),
         Checked::Good(n, parting, count) => run(text, store, cache, n, parting, count),
     }
 }
 
-// "Fewer than 32 output bytes returns 9 and writes nothing, before any reading; otherwise the code is 0, also with `no`."
-pub fn verdict(text: &[u8], store: &mut [u8], cache: &mut [u64], out: &mut [u8]) -> Verdict
-    ensures { λ r. ⌜ Gives (now (text .entry)) (now (store .entry)) (now (out .entry)) (now (out .exit)) r ⌝ }
+// "Fewer than 32 output bytes returns 9 and writes nothing, before any reading; otherwise the code is 0, also with
+// `no`."
+pub fn verdict(text: &[u8], store: &mut [u8], cache: &mut [u64], out: &mut [u8]) -> VerdictResult
+    ensures { λ r. ⌜ VerdictEnsures (now (text .entry)) (now (store .entry)) (now (out .entry)) (now (out .exit)) r ⌝ }
 {
-    if out.len() < 32 {
-        return Verdict { code: 9, bytes: 0 };
+    if out.len() < VERDICT_ROOM {
+        return VerdictResult { code: 9, bytes: 0 };
     }
     let ruling = judge(text, store, cache);
     let bytes = ruling::write(out, ruling);
-    Verdict { code: 0, bytes }
+    VerdictResult { code: 0, bytes }
 }

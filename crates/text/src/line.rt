@@ -3,9 +3,10 @@ use crate::args;
 use crate::call;
 use crate::call::Call;
 use crate::gate;
+use crate::limits::MOST_DIGITS;
 use crate::split;
 use crate::words;
-ghost use Rattle.text.specs.Calls.{LineRead};
+ghost use Rattle.text.specs.Line.{LineRead};
 
 // The call that a line is, or its refusal.
 pub fn read(line: &[u8]) -> Call
@@ -17,6 +18,6 @@ pub fn read(line: &[u8]) -> Call
         return gate::read(line, e);
     }
     let word = words::read(&line[a..e]);
-    let args = args::after(line, e, 8);
+    let args = args::after(line, e, MOST_DIGITS);
     call::make(word, args)
 }

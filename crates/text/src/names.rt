@@ -1,8 +1,9 @@
 // The gates' names.
+use crate::limits::QubitNumber;
 use crate::split;
 use diagram::gate::Gate;
 ghost use mathlib.Core.Path.{_≡_};
-ghost use Rattle.text.specs.Gates.{choose as choose1, oneQubit, twoQubits};
+ghost use Rattle.text.specs.Names.{chooseName, oneQubit, twoQubits};
 
 pub enum Named {
     Gate(Gate),
@@ -11,7 +12,7 @@ pub enum Named {
 
 // The gate `yes` where s is the name, else `no`.
 fn choose(s: &[u8], name: &[u8], yes: Gate, no: Named) -> Named
-    ensures { λ r. ⌜ r ≡ choose1 (now (s .entry)) (now (name .entry)) yes no ⌝ }
+    ensures { λ r. ⌜ r ≡ chooseName (now (s .entry)) (now (name .entry)) yes no ⌝ }
 {
     if split::same(s, name) {
         Named::Gate(yes)
@@ -21,7 +22,7 @@ fn choose(s: &[u8], name: &[u8], yes: Gate, no: Named) -> Named
 }
 
 // The gate of this name on one qubit. It is looked for from the last to the first.
-pub(crate) fn one_qubit(s: &[u8], q: usize) -> Named
+pub(crate) fn one_qubit(s: &[u8], q: QubitNumber) -> Named
     ensures { λ r. ⌜ r ≡ oneQubit (now (s .entry)) q ⌝ }
 {
     let g = Named::Unknown;
@@ -37,7 +38,7 @@ pub(crate) fn one_qubit(s: &[u8], q: usize) -> Named
 }
 
 // The gate of this name on two qubits.
-pub(crate) fn two_qubits(s: &[u8], p: usize, q: usize) -> Named
+pub(crate) fn two_qubits(s: &[u8], p: QubitNumber, q: QubitNumber) -> Named
     ensures { λ r. ⌜ r ≡ twoQubits (now (s .entry)) p q ⌝ }
 {
     let g = Named::Unknown;

@@ -2,7 +2,8 @@
 ghost use mathlib.Core.Path.{_≡_};
 ghost use Prim.Native.Nat.{_≤_, _<_};
 ghost use lib.ListN.{length};
-ghost use Rattle.text.specs.Text.{digitsFrom, needless as needless1, numberOf};
+ghost use Rattle.text.specs.Limits.{mostDigits};
+ghost use Rattle.text.specs.Number.{digitsFrom, needless as needless1, numberOf};
 
 pub enum Number {
     Malformed,
@@ -16,7 +17,7 @@ fn wide(x: u8) -> usize
 }
 
 fn digits(s: &[u8]) -> Number
-    requires { ⌜ length (now s) ≤ 8 ⌝ }
+    requires { ⌜ length (now s) ≤ mostDigits ⌝ }
     ensures { λ r. ⌜ r ≡ digitsFrom 0 (now (s .entry)) ⌝ }
 {
     let mut v: usize = 0;
@@ -46,7 +47,7 @@ fn needless(s: &[u8]) -> bool
 
 // A number of 1 to `most` digits.
 pub fn read(s: &[u8], most: usize) -> Number
-    requires { ⌜ most ≤ 8 ⌝ }
+    requires { ⌜ most ≤ mostDigits ⌝ }
     ensures { λ r. ⌜ r ≡ numberOf most (now (s .entry)) ⌝ }
 {
     let n = s.len();

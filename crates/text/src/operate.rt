@@ -4,51 +4,78 @@ use crate::call::Refusal;
 use crate::engine;
 use crate::engine::Engine;
 use crate::engine::Reply;
+use crate::limits::Index;
+use crate::limits::Mask;
+use crate::limits::QubitCount;
+use crate::limits::RegisterNumber;
+use crate::limits::Weight;
 use diagram::build;
 use diagram::contract;
 use diagram::depends;
 use diagram::gate::Gate;
-use diagram::join::Made;
+use diagram::join::Outcome;
 use diagram::lower;
 use diagram::node::Edge;
 use diagram::sum;
 use diagram::unit;
-ghost use Prim.Native.Nat.{_+_, _≤_, _<_};
-ghost use Rattle.diagram.specs.Tensor.{bits};
+ghost use Prim.Native.Nat.{_≤_, _<_};
+ghost use Rattle.diagram.specs.Tensor.{bits, masks};
 ghost use Rattle.diagram.specs.Tally.{sum as sums, cont as conts, low as lows};
-ghost use Rattle.diagram.specs.FreeLaws.{Free};
+ghost use Rattle.diagram.specs.Lower.{LowerRequires};
 ghost use Rattle.diagram.specs.Meaning.{Valid};
 ghost use Rattle.diagram.specs.Engine.{tensorOf};
-ghost use Rattle.diagram.specs.Standing.{Standing};
-ghost use Rattle.text.specs.Gates.{Placed};
-ghost use Rattle.text.specs.Calls.{Ranged};
-ghost use Rattle.text.specs.Engine.{Settled, Responds};
-ghost use Rattle.text.specs.Apply.{applies};
-ghost use Rattle.text.specs.Respond.{Lowers};
+ghost use Rattle.text.specs.Limits.{lastIndex, mostQubits, registerCount};
+ghost use Rattle.text.specs.Names.{Placed};
+ghost use Rattle.text.specs.Call.{Ranged};
+ghost use Rattle.text.specs.Engine.{EngineInvariant, SetsRegister};
+ghost use Rattle.text.specs.Apply.{applyStep};
+ghost use Rattle.text.specs.Respond.{RespondEnsures};
+ghost use Rattle.text.specs.Operate.{LowEnsures};
 ghost use Rattle.text.specs.declared.call.Call.the-variants as call;
 
-pub(crate) fn put(store: &mut [u8], cache: &mut [u64], engine: Engine, d: usize, w: usize) -> Reply
-    requires { ⌜ Standing (now cache) (now store) (engine .state) (engine .registers .all) × Ranged (call.Put d w) ⌝ }
-    ensures { λ r. ⌜ Responds (now (cache .exit)) (now (store .entry)) (now (store .exit)) engine (call.Put d w) r ⌝ }
+pub(crate) fn put(
+    store: &mut [u8],
+    cache: &mut [u64],
+    engine: Engine,
+    d: RegisterNumber,
+    w: Weight,
+) -> Reply
+    requires { ⌜ EngineInvariant (now cache) (now store) engine × Ranged (call.Put d w) ⌝ }
+    ensures { λ r. ⌜ RespondEnsures (now (cache .exit)) (now (store .entry)) (now (store .exit)) engine
+        (call.Put d w) r ⌝ }
 {
     let state = engine.state;
     let weight = w as u64;
     let e = Edge { weight, node: 0 };
-    let made = Made::Edge(e, state);
+    let made = Outcome::Edge(e, state);
     engine::settle(store, cache, engine, d, made)
 }
 
-pub(crate) fn gate(store: &mut [u8], cache: &mut [u64], engine: Engine, d: usize, g: Gate) -> Reply
-    requires { ⌜ Standing (now cache) (now store) (engine .state) (engine .registers .all) × Ranged (call.Gate d g) ⌝ }
-    ensures { λ r. ⌜ Responds (now (cache .exit)) (now (store .entry)) (now (store .exit)) engine (call.Gate d g) r ⌝ }
+pub(crate) fn gate(
+    store: &mut [u8],
+    cache: &mut [u64],
+    engine: Engine,
+    d: RegisterNumber,
+    g: Gate,
+) -> Reply
+    requires { ⌜ EngineInvariant (now cache) (now store) engine × Ranged (call.Gate d g) ⌝ }
+    ensures { λ r. ⌜ RespondEnsures (now (cache .exit)) (now (store .entry)) (now (store .exit)) engine
+        (call.Gate d g) r ⌝ }
 {
     let made = build::gate(store, engine.state, g);
     engine::settle(store, cache, engine, d, made)
 }
 
-pub(crate) fn unit(store: &mut [u8], cache: &mut [u64], engine: Engine, d: usize, n: usize) -> Reply
-    requires { ⌜ Standing (now cache) (now store) (engine .state) (engine .registers .all) × Ranged (call.Unit d n) ⌝ }
-    ensures { λ r. ⌜ Responds (now (cache .exit)) (now (store .entry)) (now (store .exit)) engine (call.Unit d n) r ⌝ }
+pub(crate) fn unit(
+    store: &mut [u8],
+    cache: &mut [u64],
+    engine: Engine,
+    d: RegisterNumber,
+    n: QubitCount,
+) -> Reply
+    requires { ⌜ EngineInvariant (now cache) (now store) engine × Ranged (call.Unit d n) ⌝ }
+    ensures { λ r. ⌜ RespondEnsures (now (cache .exit)) (now (store .entry)) (now (store .exit)) engine
+        (call.Unit d n) r ⌝ }
 {
     let made = unit::unit(store, engine.state, n);
     engine::settle(store, cache, engine, d, made)
@@ -58,13 +85,13 @@ pub(crate) fn add(
     store: &mut [u8],
     cache: &mut [u64],
     engine: Engine,
-    d: usize,
+    d: RegisterNumber,
     a: Edge,
     b: Edge,
 ) -> Reply
-    requires { ⌜ Standing (now cache) (now store) (engine .state) (engine .registers .all) ×
-        ((d < 16) × (Valid (engine .state .count) a × Valid (engine .state .count) b)) ⌝ }
-    ensures { λ r. ⌜ Settled (now (cache .exit)) (now (store .entry)) (now (store .exit)) engine d
+    requires { ⌜ EngineInvariant (now cache) (now store) engine ×
+        ((d < registerCount) × (Valid (engine .state .count) a × Valid (engine .state .count) b)) ⌝ }
+    ensures { λ r. ⌜ SetsRegister (now (cache .exit)) (now (store .entry)) (now (store .exit)) engine d
         (sums (tensorOf (now (store .entry)) (engine .state) a) (tensorOf (now (store .entry)) (engine .state) b)) r ⌝ }
 {
     let made = sum::sum(store, cache, engine.state, a, b);
@@ -75,29 +102,38 @@ pub(crate) fn cont(
     store: &mut [u8],
     cache: &mut [u64],
     engine: Engine,
-    d: usize,
+    d: RegisterNumber,
     a: Edge,
     b: Edge,
-    m: usize,
+    m: Mask,
 ) -> Reply
-    requires { ⌜ Standing (now cache) (now store) (engine .state) (engine .registers .all) ×
-        ((d < 16) × (Valid (engine .state .count) a × (Valid (engine .state .count) b × (m < 16777216)))) ⌝ }
-    ensures { λ r. ⌜ Settled (now (cache .exit)) (now (store .entry)) (now (store .exit)) engine d
-        (conts (tensorOf (now (store .entry)) (engine .state) a) (tensorOf (now (store .entry)) (engine .state) b) (bits m)) r ⌝ }
+    requires { ⌜ EngineInvariant (now cache) (now store) engine ×
+        ((d < registerCount) ×
+        (Valid (engine .state .count) a × (Valid (engine .state .count) b × (m < masks)))) ⌝ }
+    ensures { λ r. ⌜ SetsRegister (now (cache .exit)) (now (store .entry)) (now (store .exit)) engine d
+        (conts (tensorOf (now (store .entry)) (engine .state) a) (tensorOf (now (store .entry)) (engine .state) b)
+        (bits m)) r ⌝ }
 {
     let mask = m as u64;
     let made = contract::contract(store, cache, engine.state, a, b, mask);
     engine::settle(store, cache, engine, d, made)
 }
 
-// Index j + 1 is renamed j.
-fn lower(store: &mut [u8], cache: &mut [u64], engine: Engine, d: usize, a: Edge, j: usize) -> Reply
-    requires { ⌜ Standing (now cache) (now store) (engine .state) (engine .registers .all) ×
-        ((d < 16) × (Valid (engine .state .count) a × ((j < 23) × Free j (tensorOf (now store) (engine .state) a)))) ⌝ }
-    ensures { λ r. ⌜ Settled (now (cache .exit)) (now (store .entry)) (now (store .exit)) engine d
-        (lows (j + 1) (tensorOf (now (store .entry)) (engine .state) a)) r ⌝ }
+// Index k is renamed k - 1.
+fn lower(
+    store: &mut [u8],
+    cache: &mut [u64],
+    engine: Engine,
+    d: RegisterNumber,
+    a: Edge,
+    k: Index,
+) -> Reply
+    requires { ⌜ EngineInvariant (now cache) (now store) engine ×
+        ((d < registerCount) × (Valid (engine .state .count) a × LowerRequires (now store) (engine .state) a k)) ⌝ }
+    ensures { λ r. ⌜ SetsRegister (now (cache .exit)) (now (store .entry)) (now (store .exit)) engine d
+        (lows k (tensorOf (now (store .entry)) (engine .state) a)) r ⌝ }
 {
-    let made = lower::lower(store, cache, engine.state, a, j);
+    let made = lower::lower(store, cache, engine.state, a, k);
     engine::settle(store, cache, engine, d, made)
 }
 
@@ -106,19 +142,19 @@ pub(crate) fn low(
     store: &mut [u8],
     cache: &mut [u64],
     engine: Engine,
-    d: usize,
+    d: RegisterNumber,
     a: Edge,
-    k: usize,
+    k: Index,
 ) -> Reply
-    requires { ⌜ Standing (now cache) (now store) (engine .state) (engine .registers .all) ×
-        ((d < 16) × (Valid (engine .state .count) a × ((1 ≤ k) × (k ≤ 23)))) ⌝ }
-    ensures { λ r. ⌜ Lowers (now (cache .exit)) (now (store .entry)) (now (store .exit)) engine d k a r ⌝ }
+    requires { ⌜ EngineInvariant (now cache) (now store) engine ×
+        ((d < registerCount) × (Valid (engine .state .count) a × ((1 ≤ k) × (k ≤ lastIndex)))) ⌝ }
+    ensures { λ r. ⌜ LowEnsures (now (cache .exit)) (now (store .entry)) (now (store .exit)) engine d k a r ⌝ }
 {
     let j = k - 1;
     if depends::depends(store, engine.state, a, j) {
         return engine::refuse(engine, Refusal::Depends);
     }
-    lower(store, cache, engine, d, a, j)
+    lower(store, cache, engine, d, a, k)
 }
 
 // The gate g applied to a.
@@ -126,14 +162,14 @@ pub(crate) fn apply(
     store: &mut [u8],
     cache: &mut [u64],
     engine: Engine,
-    d: usize,
+    d: RegisterNumber,
     a: Edge,
     g: Gate,
 ) -> Reply
-    requires { ⌜ Standing (now cache) (now store) (engine .state) (engine .registers .all) ×
-        ((d < 16) × (Valid (engine .state .count) a × Placed 8 g)) ⌝ }
-    ensures { λ r. ⌜ Settled (now (cache .exit)) (now (store .entry)) (now (store .exit)) engine d
-        (applies g (tensorOf (now (store .entry)) (engine .state) a)) r ⌝ }
+    requires { ⌜ EngineInvariant (now cache) (now store) engine ×
+        ((d < registerCount) × (Valid (engine .state .count) a × Placed mostQubits g)) ⌝ }
+    ensures { λ r. ⌜ SetsRegister (now (cache .exit)) (now (store .entry)) (now (store .exit)) engine d
+        (applyStep g (tensorOf (now (store .entry)) (engine .state) a)) r ⌝ }
 {
     let made = apply::apply(store, cache, engine.state, a, g);
     engine::settle(store, cache, engine, d, made)

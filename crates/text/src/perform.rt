@@ -3,6 +3,7 @@ use crate::answer::Answer;
 use crate::call::Call;
 use crate::engine::Engine;
 use crate::engine::Reply;
+use crate::limits::RegisterNumber;
 use crate::operate;
 use crate::respond;
 use diagram::collect;
@@ -12,15 +13,16 @@ use diagram::registers::Held;
 ghost use mathlib.Core.Path.{_≡_};
 ghost use mathlib.Core.List.{[], _∷_};
 ghost use Prim.Native.Nat.{_<_};
-ghost use Rattle.diagram.specs.Standing.{Standing};
-ghost use Rattle.text.specs.Gates.{Placed};
-ghost use Rattle.text.specs.Calls.{Ranged};
-ghost use Rattle.text.specs.VerdictRun.{gateCalls};
-ghost use Rattle.text.specs.Answers.{isNo};
-ghost use Rattle.text.specs.Perform.{Extends, Tidied, Finishes};
+ghost use Rattle.text.specs.Limits.{mostQubits};
+ghost use Rattle.text.specs.Names.{Placed};
+ghost use Rattle.text.specs.Call.{Ranged};
+ghost use Rattle.text.specs.VerdictSession.{gateCalls};
+ghost use Rattle.text.specs.Answer.{isNo};
+ghost use Rattle.text.specs.Perform.{PerformsCalls, DropCollectEnsures, FinishEnsures};
+ghost use Rattle.text.specs.Engine.{EngineInvariant};
 
 // Whether a call was refused, and what the calls before it leave.
-pub struct Run {
+pub struct PerformState {
     pub refused: bool,
     pub engine: Engine,
 }
@@ -39,9 +41,14 @@ fn is_no(answer: Answer) -> bool
 }
 
 // One call more, unless one was refused.
-pub(crate) fn call(store: &mut [u8], cache: &mut [u64], run: Run, call: Call) -> Run
-    requires { ⌜ Standing (now cache) (now store) (run .engine .state) (run .engine .registers .all) × Ranged call ⌝ }
-    ensures { λ r. ⌜ Extends (now (store .entry)) (now (cache .exit)) (now (store .exit)) run (call ∷ []) r ⌝ }
+pub(crate) fn call(
+    store: &mut [u8],
+    cache: &mut [u64],
+    run: PerformState,
+    call: Call,
+) -> PerformState
+    requires { ⌜ EngineInvariant (now cache) (now store) (run .engine) × Ranged call ⌝ }
+    ensures { λ r. ⌜ PerformsCalls (now (store .entry)) (now (cache .exit)) (now (store .exit)) run (call ∷ []) r ⌝ }
 {
     if run.refused {
         return run;
@@ -50,13 +57,13 @@ pub(crate) fn call(store: &mut [u8], cache: &mut [u64], run: Run, call: Call) ->
     let answer = reply.answer;
     let engine = reply.engine;
     let refused = is_no(answer);
-    Run { refused, engine }
+    PerformState { refused, engine }
 }
 
 // "`drop 2`, `collect`"
-fn tidied(store: &mut [u8], cache: &mut [u64], engine: Engine) -> Engine
-    requires { ⌜ Standing (now cache) (now store) (engine .state) (engine .registers .all) ⌝ }
-    ensures { λ r. ⌜ Tidied (now (store .entry)) (now (cache .exit)) (now (store .exit)) engine r ⌝ }
+fn drop_collect(store: &mut [u8], cache: &mut [u64], engine: Engine) -> Engine
+    requires { ⌜ EngineInvariant (now cache) (now store) engine ⌝ }
+    ensures { λ r. ⌜ DropCollectEnsures (now (store .entry)) (now (cache .exit)) (now (store .exit)) engine r ⌝ }
 {
     let registers = registers::clear(engine.registers, 2);
     let swept = collect::collect(store, cache, engine.state, registers);
@@ -66,24 +73,31 @@ fn tidied(store: &mut [u8], cache: &mut [u64], engine: Engine) -> Engine
 }
 
 // What follows the gate's step, unless it was refused.
-fn finished(store: &mut [u8], cache: &mut [u64], reply: Reply) -> Run
-    requires { ⌜ Standing (now cache) (now store) (reply .engine .state) (reply .engine .registers .all) ⌝ }
-    ensures { λ x. ⌜ Finishes (now (store .entry)) (now (cache .exit)) (now (store .exit)) reply x ⌝ }
+fn finish(store: &mut [u8], cache: &mut [u64], reply: Reply) -> PerformState
+    requires { ⌜ EngineInvariant (now cache) (now store) (reply .engine) ⌝ }
+    ensures { λ x. ⌜ FinishEnsures (now (store .entry)) (now (cache .exit)) (now (store .exit)) reply x ⌝ }
 {
     let answer = reply.answer;
     let engine = reply.engine;
     let refused = is_no(answer);
     if refused {
-        return Run { refused, engine };
+        return PerformState { refused, engine };
     }
-    let engine = tidied(store, cache, engine);
-    Run { refused, engine }
+    let engine = drop_collect(store, cache, engine);
+    PerformState { refused, engine }
 }
 
 // A gate of the list in register r. With nothing there, its `cont` would be refused.
-pub(crate) fn gate(store: &mut [u8], cache: &mut [u64], run: Run, r: usize, g: Gate) -> Run
-    requires { ⌜ Standing (now cache) (now store) (run .engine .state) (run .engine .registers .all) × ((r < 2) × Placed 8 g) ⌝ }
-    ensures { λ x. ⌜ Extends (now (store .entry)) (now (cache .exit)) (now (store .exit)) run (gateCalls r g) x ⌝ }
+pub(crate) fn gate(
+    store: &mut [u8],
+    cache: &mut [u64],
+    run: PerformState,
+    r: RegisterNumber,
+    g: Gate,
+) -> PerformState
+    requires { ⌜ EngineInvariant (now cache) (now store) (run .engine) × ((r < 2) × Placed mostQubits g) ⌝ }
+    ensures { λ x. ⌜ PerformsCalls (now (store .entry)) (now (cache .exit)) (now (store .exit)) run
+        (gateCalls r g) x ⌝ }
 {
     if run.refused {
         return run;
@@ -91,8 +105,8 @@ pub(crate) fn gate(store: &mut [u8], cache: &mut [u64], run: Run, r: usize, g: G
     let engine = run.engine;
     let Held::Edge(x) = registers::get(engine.registers, r) else {
         let refused = true;
-        return Run { refused, engine };
+        return PerformState { refused, engine };
     };
     let reply = operate::apply(store, cache, engine, r, x, g);
-    finished(store, cache, reply)
+    finish(store, cache, reply)
 }

@@ -3,8 +3,7 @@ ghost use mathlib.Core.Path.{_≡_};
 ghost use mathlib.Core.List.{_++_};
 ghost use Prim.Native.Nat.{_+_, _≤_, _<_};
 ghost use lib.ListN.{length};
-ghost use Rattle.text.specs.Answers.{decimal};
-ghost use Rattle.text.specs.Print.{Wrote};
+ghost use Rattle.text.specs.Print.{Wrote, decimal};
 
 fn digit(d: usize) -> u8
     requires { ⌜ d < 10 ⌝ }

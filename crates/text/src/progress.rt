@@ -1,6 +1,8 @@
 // Where a session stands, line after line (document 01, "Session calls").
 use crate::answer;
 use crate::engine::Engine;
+use crate::limits::ANSWER_ROOM;
+use crate::limits::NodeCount;
 use crate::line;
 use crate::respond;
 use crate::split;
@@ -8,15 +10,17 @@ use diagram::registers::Registers;
 ghost use mathlib.Core.Path.{_≡_};
 ghost use Prim.Native.Nat.{_+_, _≤_, _<_};
 ghost use lib.ListN.{length};
-ghost use Rattle.diagram.specs.Standing.{Standing};
-ghost use Rattle.text.specs.Progress.{LineAnswered, Turnable, Turned, Resumed, stopped, resultOf};
+ghost use Rattle.text.specs.Limits.{answerRoom};
+ghost use Rattle.text.specs.Progress.{AnswerLineEnsures, TurnRequires, TurnEnsures, ResumeEnsures};
+ghost use Rattle.text.specs.Progress.{stoppedProgress, resultOf};
+ghost use Rattle.text.specs.Engine.{EngineInvariant};
 
 // "The result gives the code (0 or 9), lines answered, bytes written, the node count and the sixteen registers."
 pub struct Session {
     pub code: usize,
     pub lines: usize,
     pub bytes: usize,
-    pub count: usize,
+    pub count: NodeCount,
     pub registers: Registers,
 }
 
@@ -38,9 +42,10 @@ fn answer_line(
     p: Progress,
     place: usize,
 ) -> Progress
-    requires { ⌜ Standing (now cache) (now store) (p .engine .state) (p .engine .registers .all) ×
-        ((p .bytes + 16 ≤ length (now out)) × (p .lines < 18446744073709551615)) ⌝ }
-    ensures { λ r. ⌜ LineAnswered (now (line .entry)) place (now (store .entry)) (now (cache .exit)) (now (store .exit)) (now (out .entry)) (now (out .exit)) p r ⌝ }
+    requires { ⌜ EngineInvariant (now cache) (now store) (p .engine) ×
+        ((p .bytes + answerRoom ≤ length (now out)) × (p .lines < 18446744073709551615)) ⌝ }
+    ensures { λ r. ⌜ AnswerLineEnsures (now (line .entry)) place (now (store .entry)) (now (cache .exit))
+        (now (store .exit)) (now (out .entry)) (now (out .exit)) p r ⌝ }
 {
     let call = line::read(line);
     let reply = respond::respond(store, cache, p.engine, call);
@@ -59,8 +64,9 @@ fn answer_line(
 
 // The next line of the text.
 fn turn(text: &[u8], store: &mut [u8], cache: &mut [u64], out: &mut [u8], p: Progress) -> Progress
-    requires { ⌜ Standing (now cache) (now store) (p .engine .state) (p .engine .registers .all) × Turnable (now text) (now out) p ⌝ }
-    ensures { λ r. ⌜ Turned (now (text .entry)) (now (store .entry)) (now (cache .exit)) (now (store .exit)) (now (out .entry)) (now (out .exit)) p r ⌝ }
+    requires { ⌜ EngineInvariant (now cache) (now store) (p .engine) × TurnRequires (now text) (now out) p ⌝ }
+    ensures { λ r. ⌜ TurnEnsures (now (text .entry)) (now (store .entry)) (now (cache .exit)) (now (store .exit))
+        (now (out .entry)) (now (out .exit)) p r ⌝ }
 {
     let place = p.place;
     let e = split::end(text, place, b'\n');
@@ -69,7 +75,7 @@ fn turn(text: &[u8], store: &mut [u8], cache: &mut [u64], out: &mut [u8], p: Pro
 
 // "the run stops with 9 and the line is not begun"
 fn stop(p: Progress) -> Progress
-    ensures { λ r. ⌜ r ≡ stopped p ⌝ }
+    ensures { λ r. ⌜ r ≡ stoppedProgress p ⌝ }
 {
     let lines = p.lines;
     let bytes = p.bytes;
@@ -93,8 +99,9 @@ pub fn resume(
     limit: usize,
     engine: Engine,
 ) -> Progress
-    requires { ⌜ Standing (now cache) (now store) (engine .state) (engine .registers .all) ⌝ }
-    ensures { λ r. ⌜ Resumed (now (text .entry)) limit engine (now (store .entry)) (now (cache .exit)) (now (store .exit)) (now (out .entry)) (now (out .exit)) r ⌝ }
+    requires { ⌜ EngineInvariant (now cache) (now store) engine ⌝ }
+    ensures { λ r. ⌜ ResumeEnsures (now (text .entry)) limit engine (now (store .entry)) (now (cache .exit))
+        (now (store .exit)) (now (out .entry)) (now (out .exit)) r ⌝ }
 {
     let mut p = Progress {
         code: 0,
@@ -107,7 +114,7 @@ pub fn resume(
         if p.lines == limit {
             return p;
         }
-        if out.len() - p.bytes < 16 {
+        if out.len() - p.bytes < ANSWER_ROOM {
             return stop(p);
         }
         p = turn(text, store, cache, out, p);

@@ -1,20 +1,23 @@
 // A gate's qubits in rising order, and the mask of their middles.
+use crate::limits::Mask;
+use crate::limits::QubitNumber;
 use diagram::gate;
 use diagram::gate::Gate;
 use diagram::gate::Shape;
 ghost use mathlib.Core.Path.{_≡_};
 ghost use Prim.Native.Nat.{_+_, _*_, _^_, _<_};
-ghost use Rattle.text.specs.Gates.{Placed};
-ghost use Rattle.text.specs.VerdictRun.{middles as middlesOf};
-ghost use Rattle.text.specs.Qubits.{listed, Below, QubitsOf};
+ghost use Rattle.diagram.specs.Tensor.{masks};
+ghost use Rattle.text.specs.Limits.{mostQubits};
+ghost use Rattle.text.specs.Names.{Placed};
+ghost use Rattle.text.specs.Qubits.{qubitList, RangedQubits, QubitsOf, middles as middlesOf};
 
 pub enum Qubits {
-    One(usize),
-    Two(usize, usize),
+    One(QubitNumber),
+    Two(QubitNumber, QubitNumber),
 }
 
 pub(crate) fn of(g: Gate) -> Qubits
-    requires { ⌜ Placed 8 g ⌝ }
+    requires { ⌜ Placed mostQubits g ⌝ }
     ensures { λ r. ⌜ QubitsOf g r ⌝ }
 {
     match gate::shape_of(g) {
@@ -29,8 +32,8 @@ pub(crate) fn of(g: Gate) -> Qubits
 }
 
 // 2 to the middle index of q.
-fn middle(q: usize) -> usize
-    requires { ⌜ q < 8 ⌝ }
+fn middle(q: QubitNumber) -> Mask
+    requires { ⌜ q < mostQubits ⌝ }
     ensures { λ r. ⌜ (r ≡ 2 ^ (3 * q + 1)) × (r < 8388608) ⌝ }
 {
     let k = 3 * q + 1;
@@ -38,9 +41,9 @@ fn middle(q: usize) -> usize
 }
 
 // "over the middles of its qubits"
-pub(crate) fn middles(qubits: Qubits) -> usize
-    requires { ⌜ Below qubits ⌝ }
-    ensures { λ r. ⌜ (r ≡ middlesOf (listed qubits)) × (r < 16777216) ⌝ }
+pub(crate) fn middles(qubits: Qubits) -> Mask
+    requires { ⌜ RangedQubits qubits ⌝ }
+    ensures { λ r. ⌜ (r ≡ middlesOf (qubitList qubits)) × (r < masks) ⌝ }
 {
     match qubits {
         Qubits::One(q) => middle(q),

@@ -1,10 +1,15 @@
-// What a call does and answers (document 01, "Session calls"). Its line was read, so 1, 2, 4, 5 and 6 are past: "3 from the left; 7; 8".
+// What a call does and answers (document 01, "Session calls"). Its line was read, so 1, 2, 4, 5 and 6 are past: "3 from
+// the left; 7; 8".
 use crate::answer::Answer;
 use crate::call::Call;
 use crate::call::Refusal;
 use crate::engine;
 use crate::engine::Engine;
 use crate::engine::Reply;
+use crate::limits::Assignment;
+use crate::limits::Index;
+use crate::limits::Mask;
+use crate::limits::RegisterNumber;
 use crate::operate;
 use diagram::collect;
 use diagram::compare;
@@ -14,16 +19,24 @@ use diagram::registers::Held;
 use diagram::value;
 ghost use mathlib.Core.Path.{_≡_};
 ghost use Rattle.diagram.specs.Engine.{Sound};
-ghost use Rattle.diagram.specs.Registers.{Registered};
-ghost use Rattle.diagram.specs.Standing.{Standing};
+ghost use Rattle.diagram.specs.Registers.{RegistersValid};
 ghost use Rattle.text.specs.Session.{comparison};
-ghost use Rattle.text.specs.Calls.{Ranged};
-ghost use Rattle.text.specs.Engine.{Responds, Observes, Replies};
+ghost use Rattle.text.specs.Call.{Ranged};
+ghost use Rattle.text.specs.Respond.{RespondEnsures, ReadEnsures, PureEnsures};
+ghost use Rattle.text.specs.Engine.{EngineInvariant};
 ghost use Rattle.text.specs.declared.call.Call.the-variants as call;
 
-fn add(store: &mut [u8], cache: &mut [u64], engine: Engine, d: usize, a: usize, b: usize) -> Reply
-    requires { ⌜ Standing (now cache) (now store) (engine .state) (engine .registers .all) × Ranged (call.Add d a b) ⌝ }
-    ensures { λ r. ⌜ Responds (now (cache .exit)) (now (store .entry)) (now (store .exit)) engine (call.Add d a b) r ⌝ }
+fn add(
+    store: &mut [u8],
+    cache: &mut [u64],
+    engine: Engine,
+    d: RegisterNumber,
+    a: RegisterNumber,
+    b: RegisterNumber,
+) -> Reply
+    requires { ⌜ EngineInvariant (now cache) (now store) engine × Ranged (call.Add d a b) ⌝ }
+    ensures { λ r. ⌜ RespondEnsures (now (cache .exit)) (now (store .entry)) (now (store .exit)) engine
+        (call.Add d a b) r ⌝ }
 {
     let Held::Edge(x) = registers::get(engine.registers, a) else {
         return engine::refuse(engine, Refusal::Empty);
@@ -38,13 +51,14 @@ fn cont(
     store: &mut [u8],
     cache: &mut [u64],
     engine: Engine,
-    d: usize,
-    a: usize,
-    b: usize,
-    m: usize,
+    d: RegisterNumber,
+    a: RegisterNumber,
+    b: RegisterNumber,
+    m: Mask,
 ) -> Reply
-    requires { ⌜ Standing (now cache) (now store) (engine .state) (engine .registers .all) × Ranged (call.Cont d a b m) ⌝ }
-    ensures { λ r. ⌜ Responds (now (cache .exit)) (now (store .entry)) (now (store .exit)) engine (call.Cont d a b m) r ⌝ }
+    requires { ⌜ EngineInvariant (now cache) (now store) engine × Ranged (call.Cont d a b m) ⌝ }
+    ensures { λ r. ⌜ RespondEnsures (now (cache .exit)) (now (store .entry)) (now (store .exit)) engine
+        (call.Cont d a b m) r ⌝ }
 {
     let Held::Edge(x) = registers::get(engine.registers, a) else {
         return engine::refuse(engine, Refusal::Empty);
@@ -55,9 +69,17 @@ fn cont(
     operate::cont(store, cache, engine, d, x, y, m)
 }
 
-fn low(store: &mut [u8], cache: &mut [u64], engine: Engine, d: usize, a: usize, k: usize) -> Reply
-    requires { ⌜ Standing (now cache) (now store) (engine .state) (engine .registers .all) × Ranged (call.Low d a k) ⌝ }
-    ensures { λ r. ⌜ Responds (now (cache .exit)) (now (store .entry)) (now (store .exit)) engine (call.Low d a k) r ⌝ }
+fn low(
+    store: &mut [u8],
+    cache: &mut [u64],
+    engine: Engine,
+    d: RegisterNumber,
+    a: RegisterNumber,
+    k: Index,
+) -> Reply
+    requires { ⌜ EngineInvariant (now cache) (now store) engine × Ranged (call.Low d a k) ⌝ }
+    ensures { λ r. ⌜ RespondEnsures (now (cache .exit)) (now (store .entry)) (now (store .exit)) engine
+        (call.Low d a k) r ⌝ }
 {
     let Held::Edge(x) = registers::get(engine.registers, a) else {
         return engine::refuse(engine, Refusal::Empty);
@@ -65,9 +87,9 @@ fn low(store: &mut [u8], cache: &mut [u64], engine: Engine, d: usize, a: usize, 
     operate::low(store, cache, engine, d, x, k)
 }
 
-fn drop(engine: Engine, a: usize) -> Reply
+fn drop(engine: Engine, a: RegisterNumber) -> Reply
     requires { ⌜ Ranged (call.Drop a) ⌝ }
-    ensures { λ r. ⌜ Replies engine (call.Drop a) r ⌝ }
+    ensures { λ r. ⌜ PureEnsures engine (call.Drop a) r ⌝ }
 {
     let Held::Edge(_) = registers::get(engine.registers, a) else {
         return engine::refuse(engine, Refusal::Empty);
@@ -80,8 +102,9 @@ fn drop(engine: Engine, a: usize) -> Reply
 }
 
 fn collect(store: &mut [u8], cache: &mut [u64], engine: Engine) -> Reply
-    requires { ⌜ Standing (now cache) (now store) (engine .state) (engine .registers .all) ⌝ }
-    ensures { λ r. ⌜ Responds (now (cache .exit)) (now (store .entry)) (now (store .exit)) engine call.Collect r ⌝ }
+    requires { ⌜ EngineInvariant (now cache) (now store) engine ⌝ }
+    ensures { λ r. ⌜ RespondEnsures (now (cache .exit)) (now (store .entry)) (now (store .exit)) engine
+        call.Collect r ⌝ }
 {
     let swept = collect::collect(store, cache, engine.state, engine.registers);
     let state = swept.state;
@@ -91,9 +114,10 @@ fn collect(store: &mut [u8], cache: &mut [u64], engine: Engine) -> Reply
     Reply { answer, engine }
 }
 
-fn at(store: &[u8], engine: Engine, a: usize, v: usize) -> Reply
-    requires { ⌜ Sound (now store) (engine .state) × (Registered (engine .state .count) (engine .registers .all) × Ranged (call.At a v)) ⌝ }
-    ensures { λ r. ⌜ Observes (now (store .entry)) engine (call.At a v) r ⌝ }
+fn at(store: &[u8], engine: Engine, a: RegisterNumber, v: Assignment) -> Reply
+    requires { ⌜ Sound (now store) (engine .state) ×
+        (RegistersValid (engine .state .count) (engine .registers .all) × Ranged (call.At a v)) ⌝ }
+    ensures { λ r. ⌜ ReadEnsures (now (store .entry)) engine (call.At a v) r ⌝ }
 {
     let Held::Edge(x) = registers::get(engine.registers, a) else {
         return engine::refuse(engine, Refusal::Empty);
@@ -103,7 +127,7 @@ fn at(store: &[u8], engine: Engine, a: usize, v: usize) -> Reply
     Reply { answer, engine }
 }
 
-fn compared(c: Comparison) -> Answer
+fn comparison(c: Comparison) -> Answer
     ensures { λ r. ⌜ r ≡ comparison c ⌝ }
 {
     match c {
@@ -113,9 +137,9 @@ fn compared(c: Comparison) -> Answer
     }
 }
 
-pub(crate) fn cmp(engine: Engine, a: usize, b: usize) -> Reply
-    requires { ⌜ Registered (engine .state .count) (engine .registers .all) × Ranged (call.Cmp a b) ⌝ }
-    ensures { λ r. ⌜ Replies engine (call.Cmp a b) r ⌝ }
+pub(crate) fn cmp(engine: Engine, a: RegisterNumber, b: RegisterNumber) -> Reply
+    requires { ⌜ RegistersValid (engine .state .count) (engine .registers .all) × Ranged (call.Cmp a b) ⌝ }
+    ensures { λ r. ⌜ PureEnsures engine (call.Cmp a b) r ⌝ }
 {
     let Held::Edge(x) = registers::get(engine.registers, a) else {
         return engine::refuse(engine, Refusal::Empty);
@@ -123,13 +147,13 @@ pub(crate) fn cmp(engine: Engine, a: usize, b: usize) -> Reply
     let Held::Edge(y) = registers::get(engine.registers, b) else {
         return engine::refuse(engine, Refusal::Empty);
     };
-    let answer = compared(compare::compare(x, y));
+    let answer = comparison(compare::compare(x, y));
     Reply { answer, engine }
 }
 
 pub(crate) fn respond(store: &mut [u8], cache: &mut [u64], engine: Engine, call: Call) -> Reply
-    requires { ⌜ Standing (now cache) (now store) (engine .state) (engine .registers .all) × Ranged call ⌝ }
-    ensures { λ r. ⌜ Responds (now (cache .exit)) (now (store .entry)) (now (store .exit)) engine call r ⌝ }
+    requires { ⌜ EngineInvariant (now cache) (now store) engine × Ranged call ⌝ }
+    ensures { λ r. ⌜ RespondEnsures (now (cache .exit)) (now (store .entry)) (now (store .exit)) engine call r ⌝ }
 {
     match call {
         Call::Put(d, w) => operate::put(store, cache, engine, d, w),

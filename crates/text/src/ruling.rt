@@ -1,22 +1,25 @@
 // A verdict's answer, and its printed bytes.
 use crate::answer;
 use crate::answer::Answer;
+use crate::check::Fault;
+use crate::limits::LineNumber;
+use crate::limits::Weight;
 use crate::print;
-use crate::verdict::Fault;
 ghost use mathlib.Core.Path.{_≡_};
 ghost use Prim.Native.Nat.{_≤_};
 ghost use lib.ListN.{length};
-ghost use Rattle.text.specs.Verdict.{faultNumber, SmallRuling, Ruled};
+ghost use Rattle.text.specs.Limits.{verdictRoom};
+ghost use Rattle.text.specs.Ruling.{faultNumber, SmallRuling, RulingWritten};
 
 pub enum Ruling {
     Same,
-    Factor(usize),
+    Factor(Weight),
     Differ,
-    No(Fault, usize),
+    No(Fault, LineNumber),
 }
 
 // "The result is code and bytes written"
-pub struct Verdict {
+pub struct VerdictResult {
     pub code: usize,
     pub bytes: usize,
 }
@@ -35,9 +38,9 @@ pub fn number_of(f: Fault) -> usize
     }
 }
 
-fn refuse(out: &mut [u8], fault: Fault, line: usize) -> usize
-    requires { ⌜ 32 ≤ length (now out) ⌝ }
-    ensures { λ r. ⌜ Ruled (now (out .entry)) (Ruling.No fault line) (now (out .exit)) r ⌝ }
+fn refuse(out: &mut [u8], fault: Fault, line: LineNumber) -> usize
+    requires { ⌜ verdictRoom ≤ length (now out) ⌝ }
+    ensures { λ r. ⌜ RulingWritten (now (out .entry)) (Ruling.No fault line) (now (out .exit)) r ⌝ }
 {
     let n = number_of(fault);
     let a = print::labelled(out, 0, b"no\t", n);
@@ -47,8 +50,8 @@ fn refuse(out: &mut [u8], fault: Fault, line: usize) -> usize
 
 // Writes a verdict's answer at the start of the output, and answers how many bytes it has.
 pub(crate) fn write(out: &mut [u8], ruling: Ruling) -> usize
-    requires { ⌜ (32 ≤ length (now out)) × SmallRuling ruling ⌝ }
-    ensures { λ r. ⌜ Ruled (now (out .entry)) ruling (now (out .exit)) r ⌝ }
+    requires { ⌜ (verdictRoom ≤ length (now out)) × SmallRuling ruling ⌝ }
+    ensures { λ r. ⌜ RulingWritten (now (out .entry)) ruling (now (out .exit)) r ⌝ }
 {
     match ruling {
         Ruling::Same => answer::write(out, 0, Answer::Same),

@@ -5,7 +5,7 @@ use crate::progress::Session;
 ghost use lib.ListN.{take};
 ghost use Rattle.diagram.specs.Node.{capacity};
 ghost use Rattle.text.specs.Text.{lines};
-ghost use Rattle.text.specs.Session.{most, begun};
+ghost use Rattle.text.specs.Session.{most, emptyRun};
 ghost use Rattle.text.specs.Agrees.{AgreesThroughout};
 
 // The session of a text up to its first `limit` lines.
@@ -16,7 +16,8 @@ pub fn work(
     out: &mut [u8],
     limit: usize,
 ) -> Session
-    ensures { λ r. ⌜ AgreesThroughout (most (capacity (now (store .entry)))) (take limit (lines (now (text .entry)))) begun
+    ensures { λ r. ⌜ AgreesThroughout (most (capacity (now (store .entry))))
+        (take limit (lines (now (text .entry)))) emptyRun
         (now (store .exit)) (now (out .entry)) (now (out .exit)) r ⌝ }
 {
     let engine = engine::start(store, cache);
@@ -26,7 +27,7 @@ pub fn work(
 
 // The session of a text: a text has no more lines than bytes.
 pub fn session(text: &[u8], store: &mut [u8], cache: &mut [u64], out: &mut [u8]) -> Session
-    ensures { λ r. ⌜ AgreesThroughout (most (capacity (now (store .entry)))) (lines (now (text .entry))) begun
+    ensures { λ r. ⌜ AgreesThroughout (most (capacity (now (store .entry)))) (lines (now (text .entry))) emptyRun
         (now (store .exit)) (now (out .entry)) (now (out .exit)) r ⌝ }
 {
     work(text, store, cache, out, text.len())

@@ -3,7 +3,7 @@ use crate::split;
 ghost use mathlib.Core.Path.{_≡_};
 ghost use mathlib.Core.Bool.{cond};
 ghost use Rattle.text.specs.Text.{sameBytes};
-ghost use Rattle.text.specs.Calls.{wordOf};
+ghost use Rattle.text.specs.Words.{wordOf};
 
 pub enum Word {
     Put,

@@ -1,8 +1,8 @@
-// Writes what each verdict text of standard input says: `good`, its n, the line of `=` and the number of lines; or `no`, a fault's number
-// and its line. A byte 0 ends a text.
+// Writes what each verdict text of standard input says: `good`, its n, the line of `=` and the number of lines; or
+// `no`, a fault's number and its line. A byte 0 ends a text.
 use libc::STDIN_FILENO;
 use libc::STDOUT_FILENO;
-use text::verdict::Checked;
+use text::check::Checked;
 
 fn word(s: &[u8]) {
     io::write_all(STDOUT_FILENO, s);
@@ -34,7 +34,7 @@ fn show(checked: Checked) {
 fn end(text: &[u8], len: usize) {
     let a = 0;
     if len <= text.len() {
-        show(text::verdict::check(&text[a..len]));
+        show(text::check::check(&text[a..len]));
     } else {
         word(b"too long\n");
     }
@@ -63,18 +63,19 @@ fn feed(text: &mut [u8], len: usize, part: &[u8]) -> usize {
     n
 }
 
-enum Turn {
+// Bytes came, or the input has ended.
+enum AfterRead {
     More(usize),
     End,
 }
 
-fn read(text: &mut [u8], part: &mut [u8], len: usize) -> Turn {
+fn read(text: &mut [u8], part: &mut [u8], len: usize) -> AfterRead {
     let got = libc::read(STDIN_FILENO, part);
     if got <= 0 {
-        return Turn::End;
+        return AfterRead::End;
     }
     let n = io::count(got, part);
-    Turn::More(feed(text, len, &part[..n]))
+    AfterRead::More(feed(text, len, &part[..n]))
 }
 
 // A proved loop has to end, and nothing says that an input does. So it counts down from a number that no run uses up.
@@ -85,8 +86,8 @@ fn main() {
     let mut turns = u64::MAX;
     while 0 < turns {
         match read(&mut text, &mut part, len) {
-            Turn::More(n) => len = n,
-            Turn::End => return,
+            AfterRead::More(n) => len = n,
+            AfterRead::End => return,
         }
         turns -= 1;
     }

@@ -1,6 +1,8 @@
--- What the code promises of the bytes that come, and of the answer
+-- What a reader must believe: what the code promises of the bytes that come, of the end, of the whole
 pub mod Input
-pub mod Ending
--- what the proofs use of it
+pub mod Outcome
+pub mod Verdict
+-- laws of them
 pub mod InputLaws
-pub mod EndingLaws
+pub mod OutcomeLaws
+pub mod VerdictLaws

@@ -1,20 +1,19 @@
 // Standard input, part after part, into one buffer.
-use stdin::Came;
 use stdin::Next;
+use stdin::ReadResult;
 ghost use mathlib.Core.List.{[], _∷_};
 ghost use Rattle.io.specs.Counts.{Counts};
-ghost use mathlib.Core.Path.{_≡_};
-ghost use Rattle.verdict.specs.Input.{goesOn, Takes, Took, Reads, Turns};
+ghost use Rattle.verdict.specs.Input.{FeedEnsures, TakeEnsures, ReadEnsures, Reads};
 
 // How many bytes have come, and what the last read says of what comes next.
-pub struct Turn {
+pub struct AfterRead {
     pub len: usize,
     pub next: Next,
 }
 
 // One byte more, and how many have come; a byte that does not fit is counted once and not kept.
 fn put(text: &mut [u8], len: usize, b: u8) -> usize
-    ensures { λ r. ⌜ Takes (b ∷ []) (now (text .entry)) len (now (text .exit)) r ⌝ }
+    ensures { λ r. ⌜ FeedEnsures (b ∷ []) (now (text .entry)) len (now (text .exit)) r ⌝ }
 {
     if len < text.len() {
         text[len] = b;
@@ -23,8 +22,9 @@ fn put(text: &mut [u8], len: usize, b: u8) -> usize
     text.len() + 1
 }
 
+// The bytes that come next.
 fn feed(text: &mut [u8], len: usize, part: &[u8]) -> usize
-    ensures { λ r. ⌜ Takes (now (part .entry)) (now (text .entry)) len (now (text .exit)) r ⌝ }
+    ensures { λ r. ⌜ FeedEnsures (now (part .entry)) (now (text .entry)) len (now (text .exit)) r ⌝ }
 {
     let mut n = len;
     let mut i = 0;
@@ -36,51 +36,41 @@ fn feed(text: &mut [u8], len: usize, part: &[u8]) -> usize
 }
 
 // Takes in what came, which stands at the front of `part`, behind the `len` bytes that are there.
-fn take(text: &mut [u8], len: usize, came: Came, part: &[u8]) -> Turn
+fn take(text: &mut [u8], len: usize, came: ReadResult, part: &[u8]) -> AfterRead
     requires { ⌜ Counts (came .count) (now part) ⌝ }
-    ensures { λ r. ⌜ Took came (now (part .entry)) (now (text .entry)) len (now (text .exit)) r ⌝ }
+    ensures { λ r. ⌜ TakeEnsures came (now (part .entry)) (now (text .entry)) len (now (text .exit)) r ⌝ }
 {
     let n = came.count;
     let next = came.next;
     let len = feed(text, len, &part[..n]);
-    Turn { len, next }
+    AfterRead { len, next }
 }
 
-fn read(text: &mut [u8], len: usize) -> Turn
-    ensures { λ r. ⌜ Reads (now (text .entry)) len (now (text .exit)) r ⌝ }
+fn read(text: &mut [u8], len: usize) -> AfterRead
+    ensures { λ r. ⌜ ReadEnsures (now (text .entry)) len (now (text .exit)) r ⌝ }
 {
     let mut part = io::buffer();
     let came = stdin::read(&mut part);
     take(text, len, came, &part)
 }
 
-fn goes_on(next: Next) -> bool
-    ensures { λ r. ⌜ r ≡ goesOn next ⌝ }
-{
-    match next {
-        Next::More => true,
-        Next::End => false,
-        Next::Failed => false,
-    }
-}
-
 // Reads to the input's end. A proved loop has to end, and nothing says that an input does. So it counts down from a
 // number that no run uses up.
-pub fn receive(text: &mut [u8]) -> Turn
-    ensures { λ r. ⌜ Turns (now (text .entry)) (now (text .exit)) r ⌝ }
+pub fn receive(text: &mut [u8]) -> AfterRead
+    ensures { λ r. ⌜ Reads (now (text .entry)) (now (text .exit)) r ⌝ }
 {
-    let mut t = Turn {
+    let mut after = AfterRead {
         len: 0,
         next: Next::More,
     };
     let mut turns = u64::MAX;
     while 0 < turns {
-        t = read(text, t.len);
-        let next = t.next;
-        if !goes_on(next) {
-            return t;
+        after = read(text, after.len);
+        let next = after.next;
+        if !stdin::is_more(next) {
+            return after;
         }
         turns -= 1;
     }
-    t
+    after
 }

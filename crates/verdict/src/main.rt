@@ -2,17 +2,17 @@
 //
 // A text that is longer than the buffer, or whose reading failed, is not judged, and a line on standard error says
 // so, as it does of an answer that could not be written. (A program has no exit status of its own.)
-mod ending;
 mod input;
+mod outcome;
 
-use ending::Ending;
 use libc::STDERR_FILENO;
 use libc::STDOUT_FILENO;
+use outcome::Outcome;
 ghost use mathlib.Core.Path.{_≡_};
+ghost use Prim.Native.Nat.{_≤_};
 ghost use lib.ListN.{length};
 ghost use Rattle.diagram.specs.Node.{capacity};
-ghost use Prim.Native.Nat.{_≤_};
-ghost use Rattle.verdict.specs.Ending.{Served, Shown};
+ghost use Rattle.verdict.specs.Verdict.{RunEnsures, ShowRequires};
 
 // 2048 nodes of 16 bytes.
 const STORE: usize = 32768;
@@ -23,12 +23,13 @@ const CACHE: usize = 16384;
 // The longest text: 1 MiB.
 const TEXT: usize = 1048576;
 
-fn run(text: &mut [u8], store: &mut [u8], cache: &mut [u64], out: &mut [u8]) -> Ending
+fn run(text: &mut [u8], store: &mut [u8], cache: &mut [u64], out: &mut [u8]) -> Outcome
     requires { ⌜ capacity (now store) ≡ 2048 ⌝ }
-    ensures { λ r. ⌜ Served (now (text .entry)) (now (text .exit)) (now (store .entry)) (now (out .entry)) (now (out .exit)) r ⌝ }
+    ensures { λ r. ⌜ RunEnsures (now (text .entry)) (now (text .exit)) (now (store .entry))
+        (now (out .entry)) (now (out .exit)) r ⌝ }
 {
-    let t = input::receive(text);
-    ending::finish(text, store, cache, out, t)
+    let after = input::receive(text);
+    outcome::finish(text, store, cache, out, after)
 }
 
 fn say(s: &[u8]) {
@@ -43,21 +44,21 @@ fn answer(out: &[u8], n: usize)
     }
 }
 
-fn show(out: &[u8], ending: Ending)
-    requires { ⌜ Shown ending (now out) ⌝ }
+fn show(out: &[u8], outcome: Outcome)
+    requires { ⌜ ShowRequires outcome (now out) ⌝ }
 {
-    match ending {
-        Ending::Judged(v) => answer(out, v.bytes),
-        Ending::Longer => say(b"verdict: the text is longer than 1048576 bytes\n"),
-        Ending::Unread => say(b"verdict: reading failed\n"),
+    match outcome {
+        Outcome::Judged(v) => answer(out, v.bytes),
+        Outcome::TooLong => say(b"verdict: the text is longer than 1048576 bytes\n"),
+        Outcome::ReadFailed => say(b"verdict: reading failed\n"),
     }
 }
 
 // The arrays as slices; their lengths are known here, and nothing has to count their elements.
 fn lend(text: &mut [u8; TEXT], store: &mut [u8; STORE], cache: &mut [u64; CACHE]) {
     let mut out = [0u8; 32];
-    let ending = run(text, store, cache, &mut out);
-    show(&out, ending);
+    let outcome = run(text, store, cache, &mut out);
+    show(&out, outcome);
 }
 
 fn main() {

@@ -1,5 +1,5 @@
 //! The tally against the answers that stand beside the engine's programs, which were calculated
-//! apart from engine and tally.
+//! without engine and tally.
 
 use std::path::PathBuf;
 use tally::session::session;

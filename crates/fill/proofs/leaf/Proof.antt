@@ -1,5 +1,5 @@
-use Rattle.fill.specs.Fill.{leaf-joinable}
 use borrow.Author.Needs.{needs}
+use Rattle.fill.specs.FillLaws.{leaf-joinable}
 use Rattle.fill.proofs.leaf.Statement.{statement}
 use Rattle.fill.proofs.leaf.Tie as tie
 

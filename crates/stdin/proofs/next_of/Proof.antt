@@ -1,6 +1,6 @@
 use mir.Syntax.{w64}
 use mir.ValLaws.{toZ-ofZ}
-use Rattle.stdin.specs.CameLaws.{next-failed, next-more, next-end}
+use Rattle.stdin.specs.StdinLaws.{next-failed, next-more, next-end}
 use Rattle.stdin.proofs.next_of.Statement.{statement}
 use Rattle.stdin.proofs.next_of.Tie as tie
 

@@ -1,7 +1,9 @@
--- The part is built low before high; what is left is a join, and the last two needs are told by `gate-joins` from both answers.
+-- The part is built low before high; what is left is a join, and the last two needs are told by `gate-joins` from both
+-- answers.
 use Prim.Native.Nat.{_-_, ℕ, _<_}
 use borrow.Author.Needs.{needs}
-use Rattle.diagram.specs.Build.{prefix-low, prefix-high, prefix-next, gate-leaf, gate-low-full, gate-sound, gate-high-full, gate-joins}
+use Rattle.diagram.specs.BuildLaws.{bits-below-low, bits-below-high, bits-below-next, gate-leaf, gate-low-full}
+use Rattle.diagram.specs.BuildLaws.{gate-sound, gate-high-full, gate-joins}
 use borrow.Fn.Kinds.{In}
 use borrow.Fn.PlainCycle.{Measures, is, falls, and}
 use Rattle.diagram.proofs.build.part.Reads as part
@@ -13,9 +15,10 @@ use Rattle.diagram.proofs.entry.entry.Reads as entry-reads
 use Rattle.diagram.proofs.join.join.Reads as join-reads
 use Rattle.diagram.proofs.build.+part.{statement}
 use Rattle.diagram.proofs.build.+part.Tie.{close}
+use Rattle.diagram.specs.Tensor.{indexCount}
 
 abbrev μ-part : Measures 1 part-kinds.ps ℕ
-μ-part κs a = 24 - a .1 .1 .1 .0
+μ-part κs a = indexCount - a .1 .1 .1 .0
 
 abbrev part-at : ℕ → In 1 part-kinds.ps
 part-at t = and 1 part-kinds.ps (is 1 part-kinds.ps μ-part t) part.Pre
@@ -41,7 +44,7 @@ part-returns : (t : ℕ) → part-lts.Need-returns (part-claims t) (part-at t) p
 part-returns t c = search (needs, gate-leaf)
 
 part-part-requires : (t : ℕ) → part-lts.Need-part-requires (part-claims t) (part-at t) part.Post
-part-part-requires t c κs = search (needs, prefix-low, prefix-next)
+part-part-requires t c κs = search (needs, bits-below-low, bits-below-next)
 
 part-returns-2 : (t : ℕ) → part-lts.Need-returns-2 (part-claims t) (part-at t) part.Post
 part-returns-2 t c = search (needs, gate-low-full)
@@ -54,7 +57,7 @@ part-part-requires-2 t c κs =
     let prefix = start .before .before .pre .1 .1 .1 in
     let sound = gate-sound _ _ _ (start .if1 .left) prefix (chosen .next .ensures) _ _ _ _ (first .before .before .before .before .part .ensures)
     (first .l .given .1) in
-    let high = prefix-next (prefix-high prefix (start .if1 .left) (c .before .high .ensures)) (chosen .next .ensures) in
+    let high = bits-below-next (bits-below-high prefix (start .if1 .left) (c .before .high .ensures)) (chosen .next .ensures) in
     search (needs, sound, high)
 
 part-returns-3 : (t : ℕ) → part-lts.Need-returns-3 (part-claims t) (part-at t) part.Post

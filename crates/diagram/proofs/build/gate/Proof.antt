@@ -1,10 +1,10 @@
-use Rattle.diagram.specs.Build.{prefix-first, gate-whole}
+use Rattle.diagram.specs.BuildLaws.{bits-below-first, gate-whole}
 use borrow.Author.Needs.{needs}
 use Rattle.diagram.proofs.build.gate.Statement.{statement}
 use Rattle.diagram.proofs.build.gate.Tie as tie
 
 part-requires : tie.Need-part-requires
-part-requires c κs = search (needs, prefix-first)
+part-requires c κs = search (needs, bits-below-first)
 
 returns : tie.Need-returns
 returns c = search (needs, gate-whole)

@@ -1,5 +1,5 @@
 use native.Mathlib.Omega.{arith}
-use Rattle.diagram.specs.CacheWords.{holds-found}
+use Rattle.diagram.specs.CacheLaws.{entry-found}
 use borrow.Author.Needs.{needs}
 use Rattle.diagram.proofs.cache.lookup.Statement.{statement}
 use Rattle.diagram.proofs.cache.lookup.Tie as tie
@@ -12,7 +12,7 @@ returns-5 c =
     let packed = first .before .before in
     let place = packed .before in
     let start = place .before .before .before in
-    holds-found _ (place .place .result) _ _ _ _ (omega arith) (start .pre) (packed .packed .ensures)
+    entry-found _ (place .place .result) _ _ _ _ (omega arith) (start .pre) (packed .packed .ensures)
     (first .if2 .left) (second .if3 .left) (third .if4 .left) (c .narrow .ensures)
 
 pub lookup-spec : {M : Type 1} → statement M

@@ -1,6 +1,6 @@
 use native.Mathlib.Nat.{mod-lt}
 use borrow.Author.Needs.{needs}
-use Rattle.diagram.specs.Table.{masked-lt}
+use Rattle.diagram.specs.TableLaws.{masked-lt}
 use Rattle.diagram.proofs.cache.place.Statement.{statement}
 use Rattle.diagram.proofs.cache.place.Tie as tie
 

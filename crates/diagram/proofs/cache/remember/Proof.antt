@@ -1,4 +1,4 @@
-use Rattle.diagram.specs.CacheWords.{kept-none, kept-written}
+use Rattle.diagram.specs.CacheLaws.{remember-none, remember-written}
 use lib.ListN.{length-set}
 use native.Mathlib.Omega.{arith}
 use borrow.Author.Needs.{needs}
@@ -6,7 +6,7 @@ use Rattle.diagram.proofs.cache.remember.Statement.{statement}
 use Rattle.diagram.proofs.cache.remember.Tie as tie
 
 returns : tie.Need-returns
-returns c = search (needs, kept-none)
+returns c = search (needs, remember-none)
 
 slice-write-cache-2 : tie.Need-slice-write-cache-2
 slice-write-cache-2 c = simp length-set (omega arith)
@@ -21,7 +21,7 @@ returns-2 : tie.Need-returns-2
 returns-2 c =
     let place = c .before .before in
     let start = place .before .before .before in
-    kept-written _ (place .place .result) _ _ _ _ _ (omega arith) (start .pre .0) (start .pre .1) (c .before .packed .ensures) (c .wide .ensures)
+    remember-written _ (place .place .result) _ _ _ _ _ (omega arith) (start .pre .0) (start .pre .1) (c .before .packed .ensures) (c .wide .ensures)
 
 pub remember-spec : {M : Type 1} → statement M
 remember-spec =

@@ -1,6 +1,6 @@
 use native.Mathlib.Omega.{arith}
 use borrow.Author.Needs.{needs}
-use Rattle.diagram.specs.Collecting.{sweeps}
+use Rattle.diagram.specs.CollectLaws.{sweep-ensures}
 use Rattle.diagram.proofs.collect.sweep.Statement.{statement}
 use Rattle.diagram.proofs.collect.sweep.Tie as tie
 
@@ -15,7 +15,7 @@ returns c =
     let compact = c .before .before .before .before in
     let reach = compact .before .before .before .before in
     let start = reach .before .before .before in
-    sweeps (start .pre .1 .1 .1) (reach .reach .ensures) (compact .compact .ensures) (c .renumber .ensures)
+    sweep-ensures (start .pre .1 .1 .1) (reach .reach .ensures) (compact .compact .ensures) (c .renumber .ensures)
 
 pub sweep-spec : {M : Type 1} → statement M
 sweep-spec =

@@ -1,4 +1,5 @@
-use Rattle.diagram.specs.Compact.{Compacting, compact-start, ahead-children, compact-below}
+use Rattle.diagram.specs.Compact.{CompactLoop}
+use Rattle.diagram.specs.CompactLaws.{compact-start, ahead-children, compact-below}
 use Rattle.diagram.specs.Node.{nodeAt}
 use Rattle.diagram.specs.Fields.{field}
 use lib.ListN.{length}
@@ -9,7 +10,7 @@ use Rattle.diagram.proofs.compact.compact.Statement.{statement}
 use Rattle.diagram.proofs.compact.compact.Tie as tie
 
 abbrev Inv-loop : tie.InvT-loop
-Inv-loop s₀ count m₀ k₀ s m k = Compacting (λ n. field s₀ 5 (n - 1)) (nodeAt s₀) count s m k × (length s ≡ length s₀)
+Inv-loop s₀ count m₀ k₀ s m k = CompactLoop (λ n. field s₀ 5 (n - 1)) (nodeAt s₀) count s m k × (length s ≡ length s₀)
 
 abbrev μ-loop : tie.MeasureT-loop
 μ-loop s₀ count m₀ k₀ s m k = count - m

@@ -1,4 +1,4 @@
-use Rattle.diagram.specs.Compact.{forward-zero, forward-node}
+use Rattle.diagram.specs.CompactLaws.{forward-zero, forward-node}
 use native.Mathlib.Omega.{arith}
 use mathlib.Core.Path.{sym, _∙_}
 use borrow.Author.Needs.{needs}

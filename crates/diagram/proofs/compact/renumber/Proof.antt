@@ -3,9 +3,9 @@ use mathlib.Core.Path.{_≡_, ap, sym, _∙_}
 use native.Mathlib.Omega.{arith}
 use borrow.Author.Needs.{needs}
 use borrow.Author.Tests.{eq-eqb}
-use Rattle.diagram.specs.Compact.{forward}
-use Rattle.diagram.specs.Registers.{register-valid}
-use Rattle.diagram.specs.Renumber.{renumberFirst, renumber-start, renumber-on, renumber-ahead, renumber-end}
+use Rattle.diagram.specs.Compact.{forward, renumberFirst}
+use Rattle.diagram.specs.RegistersLaws.{register-valid}
+use Rattle.diagram.specs.RenumberLaws.{renumber-start, renumber-on, renumber-ahead, renumber-end}
 use Rattle.diagram.specs.declared.registers.Register.{Register}
 use Rattle.diagram.proofs.compact.renumber.Statement.{statement}
 use Rattle.diagram.proofs.compact.renumber.Tie as tie

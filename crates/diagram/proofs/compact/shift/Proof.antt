@@ -1,4 +1,4 @@
-use Rattle.diagram.specs.Compact.{shifted-by}
+use Rattle.diagram.specs.CompactLaws.{shift-by}
 use borrow.Author.Needs.{needs}
 use Rattle.diagram.proofs.compact.shift.Statement.{statement}
 use Rattle.diagram.proofs.compact.shift.Tie as tie
@@ -11,7 +11,7 @@ forward-requires-2 c κs = rw (c .before .before .before .read .ensures .0) (c .
 
 returns : tie.Need-returns
 returns c =
-    shifted-by _ _ _ (c .before .before .before .before .before .before .before .before .before .before .before .before .read .ensures .0) (c .before .before .before .before .before .before .before .before .before .before .before .before .read .ensures .1) (c .before .before .before .before .before .before .before .before .before .before .forward .ensures .0) (c .before .before .before .before .before .before .before .before .before .before .forward .ensures .1)
+    shift-by _ _ _ (c .before .before .before .before .before .before .before .before .before .before .before .before .read .ensures .0) (c .before .before .before .before .before .before .before .before .before .before .before .before .read .ensures .1) (c .before .before .before .before .before .before .before .before .before .before .forward .ensures .0) (c .before .before .before .before .before .before .before .before .before .before .forward .ensures .1)
     (c .before .before .before .before .before .before .before .before .forward2 .ensures .0) (c .before .before .before .before .before .before .before .before .forward2 .ensures .1) (c .before .before .before .before .before .before .write .ensures) (c .before .before .set .ensures)
 
 pub shift-spec : {M : Type 1} → statement M

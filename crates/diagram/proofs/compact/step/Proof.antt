@@ -1,4 +1,4 @@
-use Rattle.diagram.specs.Compact.{compact-dead, compact-live}
+use Rattle.diagram.specs.CompactLaws.{compact-dead, compact-live}
 use native.Mathlib.Omega.{arith}
 use mathlib.Core.Path.{sym, _∙_}
 use borrow.Author.Needs.{needs}

@@ -1,4 +1,4 @@
-use Rattle.diagram.specs.Compare.{stands-ratio}
+use Rattle.diagram.specs.CompareLaws.{stands-ratio}
 use borrow.Author.Needs.{needs}
 use Rattle.diagram.proofs.compare.ratio.Statement.{statement}
 use Rattle.diagram.proofs.compare.ratio.Tie as tie

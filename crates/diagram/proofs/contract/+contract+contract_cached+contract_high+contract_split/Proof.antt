@@ -2,14 +2,17 @@ use borrow.Author.Needs.{needs}
 use native.Mathlib.Omega.{arith}
 use Prim.Native.Nat.{_+_, _*_}
 use mathlib.Core.Logic.{inl, inr}
-use Rattle.diagram.specs.Cache.{looked-up}
-use Rattle.diagram.specs.Operation.{works-fit, works-hit, works-kept}
-use Rattle.diagram.specs.Halving.{rank, inside, fixable-left, fixable-right, part-ready, part-less}
-use Rattle.diagram.specs.Contracting.{contract-left, contract-right, constant-right, constant-left}
-use Rattle.diagram.specs.Contracting.{bare-rank, bare-ready, bare-some, contract-times}
-use Rattle.diagram.specs.Contracting.{contract-narrow, contract-asked, contract-known}
-use Rattle.diagram.specs.Contracting.{contract-low-failed, contract-halfway, contract-rank, contract-low-works}
-use Rattle.diagram.specs.Contracting.{contract-high-failed, contract-meetable, contract-high-works}
+use Rattle.diagram.specs.CacheLaws.{lookup-is}
+use Rattle.diagram.specs.OperationLaws.{cached-fits, cached-hit, cached-kept}
+use Rattle.diagram.specs.HalvesLaws.{inside, fixable-left, fixable-right, part-ready, part-less}
+use Rattle.diagram.specs.Operation.{edgesMeasure}
+use Rattle.diagram.specs.ContractLaws.{contract-left, contract-right, constant-right, constant-left}
+use Rattle.diagram.specs.ContractLaws.{contract-reduced-measure, contract-reduced-ready, contract-reduced-some}
+use Rattle.diagram.specs.ContractLaws.{contract-times}
+use Rattle.diagram.specs.ContractLaws.{contract-key-fits, contract-key-step, contract-known}
+use Rattle.diagram.specs.ContractLaws.{contract-low-full, contract-high-ready, contract-measure}
+use Rattle.diagram.specs.ContractLaws.{contract-low-refines}
+use Rattle.diagram.specs.ContractLaws.{contract-high-full, contract-meetable, contract-high-refines}
 use Prim.Native.Nat.{ℕ, _<_}
 use borrow.Fn.Kinds.{In}
 use borrow.Fn.PlainCycle.{Measures, is, falls, and}
@@ -38,16 +41,16 @@ use Rattle.diagram.proofs.contract.+contract+contract_cached+contract_h
 use Rattle.diagram.proofs.contract.+contract+contract_cached+contract_high+contract_split.Tie.{close}
 
 abbrev μ-contract : Measures 2 contract-kinds.ps ℕ
-μ-contract κs a = 4 * rank (a .0 .now) (a .1 .1 .0) (a .1 .1 .1 .0) (a .1 .1 .1 .1 .0) + 3
+μ-contract κs a = 4 * edgesMeasure (a .0 .now) (a .1 .1 .0) (a .1 .1 .1 .0) (a .1 .1 .1 .1 .0) + 3
 
 abbrev μ-contract-cached : Measures 2 contract-cached-kinds.ps ℕ
-μ-contract-cached κs a = 4 * rank (a .0 .now) (a .1 .1 .0) (a .1 .1 .1 .0) (a .1 .1 .1 .1 .0) + 2
+μ-contract-cached κs a = 4 * edgesMeasure (a .0 .now) (a .1 .1 .0) (a .1 .1 .1 .0) (a .1 .1 .1 .1 .0) + 2
 
 abbrev μ-contract-high : Measures 2 contract-high-kinds.ps ℕ
-μ-contract-high κs a = 4 * rank (a .0 .now) (a .1 .1 .0) (a .1 .1 .1 .0) (a .1 .1 .1 .1 .0)
+μ-contract-high κs a = 4 * edgesMeasure (a .0 .now) (a .1 .1 .0) (a .1 .1 .1 .0) (a .1 .1 .1 .1 .0)
 
 abbrev μ-contract-split : Measures 2 contract-split-kinds.ps ℕ
-μ-contract-split κs a = 4 * rank (a .0 .now) (a .1 .1 .0) (a .1 .1 .1 .0) (a .1 .1 .1 .1 .0) + 1
+μ-contract-split κs a = 4 * edgesMeasure (a .0 .now) (a .1 .1 .0) (a .1 .1 .1 .0) (a .1 .1 .1 .1 .0) + 1
 
 abbrev contract-at : ℕ → In 2 contract-kinds.ps
 contract-at t = and 2 contract-kinds.ps (is 2 contract-kinds.ps μ-contract t) contract.Pre
@@ -152,7 +155,8 @@ contract-returns-2 t c = search (needs, contract-right)
 contract-lowest-requires : (t : ℕ) → contract-lts.Need-lowest-requires (contract-claims t) (contract-at t) contract.Post
 contract-lowest-requires t c κs = search needs
 
-contract-factored-requires : (t : ℕ) → contract-lts.Need-factored-requires (contract-claims t) (contract-at t) contract.Post
+contract-factored-requires : (t : ℕ)
+    → contract-lts.Need-factored-requires (contract-claims t) (contract-at t) contract.Post
 contract-factored-requires t c κs = search needs
 
 contract-from-requires : (t : ℕ) → contract-lts.Need-from-requires (contract-claims t) (contract-at t) contract.Post
@@ -170,7 +174,8 @@ contract-same-length-2 t c = search needs
 contract-returns-4 : (t : ℕ) → contract-lts.Need-returns-4 (contract-claims t) (contract-at t) contract.Post
 contract-returns-4 t c = search (needs, constant-left)
 
-contract-contract-cached-requires : (t : ℕ) → contract-lts.Need-contract-cached-requires (contract-claims t) (contract-at t) contract.Post
+contract-contract-cached-requires : (t : ℕ)
+    → contract-lts.Need-contract-cached-requires (contract-claims t) (contract-at t) contract.Post
 contract-contract-cached-requires t c κs =
     let tests = c .before .before in
     let rest = tests .before in
@@ -179,16 +184,16 @@ contract-contract-cached-requires t c κs =
     let g = start .pre .1 .0 in
     let v = lowest .before .before .before .if1 .left in
     let w = lowest .before .before .if2 .left in (
-      omega (arith, bare-rank g (start .pre .1 .1) v w (lowest .lowest .ensures .0) (rest .before .factored .ensures) (rest .from .ensures), start .pre .0),
+      omega (arith, contract-reduced-measure g (start .pre .1 .1) v w (lowest .lowest .ensures .0) (rest .before .factored .ensures) (rest .from .ensures), start .pre .0),
       (
-        bare-ready g (start .pre .1 .1) v w (lowest .lowest .ensures .0) (rest .before .factored .ensures) (rest .from .ensures),
-        bare-some g (start .pre .1 .1) v w (lowest .lowest .ensures .0) (rest .before .factored .ensures) (rest .from .ensures)
+        contract-reduced-ready g (start .pre .1 .1) v w (lowest .lowest .ensures .0) (rest .before .factored .ensures) (rest .from .ensures),
+        contract-reduced-some g (start .pre .1 .1) v w (lowest .lowest .ensures .0) (rest .before .factored .ensures) (rest .from .ensures)
             (λ z. elim (tests .if3 .came) [ inl p ↦ p .1 .left | inr q ↦ absurd (q .left z) ]),
       ),
     )
 
 contract-times-requires : (t : ℕ) → contract-lts.Need-times-requires (contract-claims t) (contract-at t) contract.Post
-contract-times-requires t c κs = search (needs, works-fit)
+contract-times-requires t c κs = search (needs, cached-fits)
 
 contract-same-length-3 : (t : ℕ) → contract-lts.Need-same-length-3 (contract-claims t) (contract-at t) contract.Post
 contract-same-length-3 t c = search needs
@@ -207,56 +212,69 @@ contract-returns-5 t c =
     (cached .contract-cached .last .1 .0) (cached .contract-cached .last .0) (cached .contract-cached .result) (c .times .result)
     (cached .contract-cached .ensures) (c .times .ensures)
 
-contract-cached-lookup-requires : (t : ℕ) → contract-cached-lts.Need-lookup-requires (contract-cached-claims t) (contract-cached-at t) contract-cached.Post
-contract-cached-lookup-requires t c κs = search (needs, contract-narrow)
+contract-cached-lookup-requires : (t : ℕ)
+    → contract-cached-lts.Need-lookup-requires (contract-cached-claims t) (contract-cached-at t) contract-cached.Post
+contract-cached-lookup-requires t c κs = search (needs, contract-key-fits)
 
-contract-cached-enum-known-e : (t : ℕ) → contract-cached-lts.Need-enum-known-e (contract-cached-claims t) (contract-cached-at t) contract-cached.Post
+contract-cached-enum-known-e : (t : ℕ)
+    → contract-cached-lts.Need-enum-known-e (contract-cached-claims t) (contract-cached-at t) contract-cached.Post
 contract-cached-enum-known-e t c = search needs
 
-contract-cached-same-length : (t : ℕ) → contract-cached-lts.Need-same-length (contract-cached-claims t) (contract-cached-at t) contract-cached.Post
+contract-cached-same-length : (t : ℕ)
+    → contract-cached-lts.Need-same-length (contract-cached-claims t) (contract-cached-at t) contract-cached.Post
 contract-cached-same-length t c = search needs
 
-contract-cached-returns : (t : ℕ) → contract-cached-lts.Need-returns (contract-cached-claims t) (contract-cached-at t) contract-cached.Post
+contract-cached-returns : (t : ℕ)
+    → contract-cached-lts.Need-returns (contract-cached-claims t) (contract-cached-at t) contract-cached.Post
 contract-cached-returns t c =
     let lookup = c .before .before .before in
     let pre = lookup .before .before .before .before .pre .1 in
-    works-hit (pre .0) (contract-asked (pre .0) (pre .1)) (looked-up _ (lookup .lookup .ensures) (c .before .e .given .1))
+    cached-hit (pre .0) (contract-key-step (pre .0) (pre .1)) (lookup-is _ (lookup .lookup .ensures) (c .before .e .given .1))
 
-contract-cached-enum-told : (t : ℕ) → contract-cached-lts.Need-enum-told (contract-cached-claims t) (contract-cached-at t) contract-cached.Post
+contract-cached-enum-told : (t : ℕ)
+    → contract-cached-lts.Need-enum-told (contract-cached-claims t) (contract-cached-at t) contract-cached.Post
 contract-cached-enum-told t c = search needs
 
 contract-cached-contract-split-requires :
     (t : ℕ) → contract-cached-lts.Need-contract-split-requires (contract-cached-claims t) (contract-cached-at t) contract-cached.Post
 contract-cached-contract-split-requires t c κs = search needs
 
-contract-cached-keep-requires : (t : ℕ) → contract-cached-lts.Need-keep-requires (contract-cached-claims t) (contract-cached-at t) contract-cached.Post
-contract-cached-keep-requires t c κs = search (needs, contract-narrow, works-fit)
+contract-cached-keep-requires : (t : ℕ)
+    → contract-cached-lts.Need-keep-requires (contract-cached-claims t) (contract-cached-at t) contract-cached.Post
+contract-cached-keep-requires t c κs = search (needs, contract-key-fits, cached-fits)
 
-contract-cached-same-length-2 : (t : ℕ) → contract-cached-lts.Need-same-length-2 (contract-cached-claims t) (contract-cached-at t) contract-cached.Post
+contract-cached-same-length-2 : (t : ℕ)
+    → contract-cached-lts.Need-same-length-2 (contract-cached-claims t) (contract-cached-at t) contract-cached.Post
 contract-cached-same-length-2 t c = search needs
 
-contract-cached-same-length-3 : (t : ℕ) → contract-cached-lts.Need-same-length-3 (contract-cached-claims t) (contract-cached-at t) contract-cached.Post
+contract-cached-same-length-3 : (t : ℕ)
+    → contract-cached-lts.Need-same-length-3 (contract-cached-claims t) (contract-cached-at t) contract-cached.Post
 contract-cached-same-length-3 t c = search needs
 
-contract-cached-returns-2 : (t : ℕ) → contract-cached-lts.Need-returns-2 (contract-cached-claims t) (contract-cached-at t) contract-cached.Post
+contract-cached-returns-2 : (t : ℕ)
+    → contract-cached-lts.Need-returns-2 (contract-cached-claims t) (contract-cached-at t) contract-cached.Post
 contract-cached-returns-2 t c =
     let keep = c .before .before in
     let split = keep .before .before .before .before .before .before in
     let pre = split .before .before .before .before .before .before .before .before .before .pre .1 in
-    works-kept (split .contract-split .last .1 .0) (keep .keep .last .0) (split .contract-split .last .0) _ _ (split .contract-split .result)
-    (pre .0) (contract-asked (pre .0) (pre .1)) (pre .0 .left .within) (pre .0 .right .within) (contract-known (pre .0) (pre .1))
+    cached-kept (split .contract-split .last .1 .0) (keep .keep .last .0) (split .contract-split .last .0) _ _ (split .contract-split .result)
+    (pre .0) (contract-key-step (pre .0) (pre .1)) (pre .0 .left .within) (pre .0 .right .within) (contract-known (pre .0) (pre .1))
     (split .contract-split .ensures) (keep .keep .ensures)
 
-contract-high-without-requires : (t : ℕ) → contract-high-lts.Need-without-requires (contract-high-claims t) (contract-high-at t) contract-high.Post
+contract-high-without-requires : (t : ℕ)
+    → contract-high-lts.Need-without-requires (contract-high-claims t) (contract-high-at t) contract-high.Post
 contract-high-without-requires t c κs = search needs
 
-contract-high-cofactor-requires : (t : ℕ) → contract-high-lts.Need-cofactor-requires (contract-high-claims t) (contract-high-at t) contract-high.Post
+contract-high-cofactor-requires : (t : ℕ)
+    → contract-high-lts.Need-cofactor-requires (contract-high-claims t) (contract-high-at t) contract-high.Post
 contract-high-cofactor-requires t c κs = search (needs, fixable-left)
 
-contract-high-cofactor-requires-2 : (t : ℕ) → contract-high-lts.Need-cofactor-requires-2 (contract-high-claims t) (contract-high-at t) contract-high.Post
+contract-high-cofactor-requires-2 : (t : ℕ)
+    → contract-high-lts.Need-cofactor-requires-2 (contract-high-claims t) (contract-high-at t) contract-high.Post
 contract-high-cofactor-requires-2 t c κs = search (needs, fixable-right)
 
-contract-high-contract-requires : (t : ℕ) → contract-high-lts.Need-contract-requires (contract-high-claims t) (contract-high-at t) contract-high.Post
+contract-high-contract-requires : (t : ℕ)
+    → contract-high-lts.Need-contract-requires (contract-high-claims t) (contract-high-at t) contract-high.Post
 contract-high-contract-requires t c κs =
     let second = c .before .before in
     let first = second .before .before in
@@ -269,22 +287,28 @@ contract-high-contract-requires t c κs =
       ),
     )
 
-contract-high-enum-known-h : (t : ℕ) → contract-high-lts.Need-enum-known-h (contract-high-claims t) (contract-high-at t) contract-high.Post
+contract-high-enum-known-h : (t : ℕ)
+    → contract-high-lts.Need-enum-known-h (contract-high-claims t) (contract-high-at t) contract-high.Post
 contract-high-enum-known-h t c = search needs
 
-contract-high-enum-told : (t : ℕ) → contract-high-lts.Need-enum-told (contract-high-claims t) (contract-high-at t) contract-high.Post
+contract-high-enum-told : (t : ℕ)
+    → contract-high-lts.Need-enum-told (contract-high-claims t) (contract-high-at t) contract-high.Post
 contract-high-enum-told t c = search needs
 
-contract-high-same-length : (t : ℕ) → contract-high-lts.Need-same-length (contract-high-claims t) (contract-high-at t) contract-high.Post
+contract-high-same-length : (t : ℕ)
+    → contract-high-lts.Need-same-length (contract-high-claims t) (contract-high-at t) contract-high.Post
 contract-high-same-length t c = search needs
 
-contract-high-same-length-2 : (t : ℕ) → contract-high-lts.Need-same-length-2 (contract-high-claims t) (contract-high-at t) contract-high.Post
+contract-high-same-length-2 : (t : ℕ)
+    → contract-high-lts.Need-same-length-2 (contract-high-claims t) (contract-high-at t) contract-high.Post
 contract-high-same-length-2 t c = search needs
 
-contract-high-returns : (t : ℕ) → contract-high-lts.Need-returns (contract-high-claims t) (contract-high-at t) contract-high.Post
-contract-high-returns t c = search (needs, contract-high-failed)
+contract-high-returns : (t : ℕ)
+    → contract-high-lts.Need-returns (contract-high-claims t) (contract-high-at t) contract-high.Post
+contract-high-returns t c = search (needs, contract-high-full)
 
-contract-high-meet-requires : (t : ℕ) → contract-high-lts.Need-meet-requires (contract-high-claims t) (contract-high-at t) contract-high.Post
+contract-high-meet-requires : (t : ℕ)
+    → contract-high-lts.Need-meet-requires (contract-high-claims t) (contract-high-at t) contract-high.Post
 contract-high-meet-requires t c κs =
     let high = c .before .before .before .before .before .before .before .before .before in
     let second = high .before .before .before in
@@ -294,13 +318,16 @@ contract-high-meet-requires t c κs =
     contract-meetable (start .pre .1 .0) (without .without .ensures) (first .cofactor .ensures) (second .cofactor2 .ensures)
     (high .contract .last .1 .0) (high .contract .last .0) (high .contract .result) (high .contract .ensures) (c .before .before .before .h .given .1)
 
-contract-high-same-length-3 : (t : ℕ) → contract-high-lts.Need-same-length-3 (contract-high-claims t) (contract-high-at t) contract-high.Post
+contract-high-same-length-3 : (t : ℕ)
+    → contract-high-lts.Need-same-length-3 (contract-high-claims t) (contract-high-at t) contract-high.Post
 contract-high-same-length-3 t c = search needs
 
-contract-high-same-length-4 : (t : ℕ) → contract-high-lts.Need-same-length-4 (contract-high-claims t) (contract-high-at t) contract-high.Post
+contract-high-same-length-4 : (t : ℕ)
+    → contract-high-lts.Need-same-length-4 (contract-high-claims t) (contract-high-at t) contract-high.Post
 contract-high-same-length-4 t c = search needs
 
-contract-high-returns-2 : (t : ℕ) → contract-high-lts.Need-returns-2 (contract-high-claims t) (contract-high-at t) contract-high.Post
+contract-high-returns-2 : (t : ℕ)
+    → contract-high-lts.Need-returns-2 (contract-high-claims t) (contract-high-at t) contract-high.Post
 contract-high-returns-2 t c =
     let meet = c .before .before .before .before in
     let high = meet .before .before .before .before .before .before .before .before .before .before in
@@ -308,24 +335,29 @@ contract-high-returns-2 t c =
     let first = second .before .before in
     let without = first .before .before in
     let start = without .before .before .before in
-    contract-high-works (start .pre .1 .0) (without .without .ensures) (first .cofactor .ensures) (second .cofactor2 .ensures)
+    contract-high-refines (start .pre .1 .0) (without .without .ensures) (first .cofactor .ensures) (second .cofactor2 .ensures)
     (high .contract .last .1 .0) (high .contract .last .0) (high .contract .result) (high .contract .ensures)
     (meet .before .before .before .before .h .given .1)
     (meet .meet .last .1 .0) (meet .meet .last .0) (meet .meet .result) (meet .meet .ensures)
 
-contract-split-lowest-requires : (t : ℕ) → contract-split-lts.Need-lowest-requires (contract-split-claims t) (contract-split-at t) contract-split.Post
+contract-split-lowest-requires : (t : ℕ)
+    → contract-split-lts.Need-lowest-requires (contract-split-claims t) (contract-split-at t) contract-split.Post
 contract-split-lowest-requires t c κs = search needs
 
-contract-split-without-requires : (t : ℕ) → contract-split-lts.Need-without-requires (contract-split-claims t) (contract-split-at t) contract-split.Post
+contract-split-without-requires : (t : ℕ)
+    → contract-split-lts.Need-without-requires (contract-split-claims t) (contract-split-at t) contract-split.Post
 contract-split-without-requires t c κs = search (needs, inside)
 
-contract-split-cofactor-requires : (t : ℕ) → contract-split-lts.Need-cofactor-requires (contract-split-claims t) (contract-split-at t) contract-split.Post
+contract-split-cofactor-requires : (t : ℕ)
+    → contract-split-lts.Need-cofactor-requires (contract-split-claims t) (contract-split-at t) contract-split.Post
 contract-split-cofactor-requires t c κs = search (needs, fixable-left, inside)
 
-contract-split-cofactor-requires-2 : (t : ℕ) → contract-split-lts.Need-cofactor-requires-2 (contract-split-claims t) (contract-split-at t) contract-split.Post
+contract-split-cofactor-requires-2 : (t : ℕ)
+    → contract-split-lts.Need-cofactor-requires-2 (contract-split-claims t) (contract-split-at t) contract-split.Post
 contract-split-cofactor-requires-2 t c κs = search (needs, fixable-right, inside)
 
-contract-split-contract-requires : (t : ℕ) → contract-split-lts.Need-contract-requires (contract-split-claims t) (contract-split-at t) contract-split.Post
+contract-split-contract-requires : (t : ℕ)
+    → contract-split-lts.Need-contract-requires (contract-split-claims t) (contract-split-at t) contract-split.Post
 contract-split-contract-requires t c κs =
     let second = c .before .before in
     let first = second .before .before in
@@ -341,20 +373,33 @@ contract-split-contract-requires t c κs =
       ),
     )
 
-contract-split-enum-known-l : (t : ℕ) → contract-split-lts.Need-enum-known-l (contract-split-claims t) (contract-split-at t) contract-split.Post
+contract-split-enum-known-l : (t : ℕ)
+    → contract-split-lts.Need-enum-known-l (contract-split-claims t) (contract-split-at t) contract-split.Post
 contract-split-enum-known-l t c = search needs
 
-contract-split-enum-told : (t : ℕ) → contract-split-lts.Need-enum-told (contract-split-claims t) (contract-split-at t) contract-split.Post
+contract-split-enum-told : (t : ℕ)
+    → contract-split-lts.Need-enum-told (contract-split-claims t) (contract-split-at t) contract-split.Post
 contract-split-enum-told t c = search needs
 
-contract-split-same-length : (t : ℕ) → contract-split-lts.Need-same-length (contract-split-claims t) (contract-split-at t) contract-split.Post
+contract-split-same-length : (t : ℕ)
+    → contract-split-lts.Need-same-length (contract-split-claims t) (contract-split-at t) contract-split.Post
 contract-split-same-length t c = search needs
 
-contract-split-same-length-2 : (t : ℕ) → contract-split-lts.Need-same-length-2 (contract-split-claims t) (contract-split-at t) contract-split.Post
+contract-split-same-length-2 : (t : ℕ)
+    → contract-split-lts.Need-same-length-2 (contract-split-claims t) (contract-split-at t) contract-split.Post
 contract-split-same-length-2 t c = search needs
 
-contract-split-returns : (t : ℕ) → contract-split-lts.Need-returns (contract-split-claims t) (contract-split-at t) contract-split.Post
-contract-split-returns t c = search (needs, contract-low-failed)
+contract-split-returns : (t : ℕ)
+    → contract-split-lts.Need-returns (contract-split-claims t) (contract-split-at t) contract-split.Post
+contract-split-returns t c =
+    let low = c .before .before .before .before .before .before in
+    let second = low .before .before .before in
+    let first = second .before .before in
+    let without = first .before .before in
+    let lowest = without .before in
+    let start = lowest .before .before .before .before in
+    contract-low-full (start .pre .1 .0) (start .pre .1 .1) (lowest .lowest .ensures .0) (without .without .ensures) (first .cofactor .ensures)
+    (second .cofactor2 .ensures) (low .contract .last .1 .0) (low .contract .last .0) (low .contract .result) (low .contract .ensures) (search needs)
 
 contract-split-contract-high-requires : (t : ℕ)
     → contract-split-lts.Need-contract-high-requires (contract-split-claims t) (contract-split-at t) contract-split.Post
@@ -366,23 +411,26 @@ contract-split-contract-high-requires t c κs =
     let lowest = without .before in
     let start = lowest .before .before .before .before in
     let l = c .before .before .before .l .given .1 in
-    let same = contract-rank (start .pre .1 .0) (start .pre .1 .1) (lowest .lowest .ensures .0) (without .without .ensures) (first .cofactor .ensures)
+    let same = contract-measure (start .pre .1 .0) (start .pre .1 .1) (lowest .lowest .ensures .0) (without .without .ensures) (first .cofactor .ensures)
     (second .cofactor2 .ensures) (low .contract .last .1 .0) (low .contract .last .0) (low .contract .result) (low .contract .ensures) l in (
       omega (arith, same, start .pre .0),
       (
-        contract-halfway (start .pre .1 .0) (start .pre .1 .1) (lowest .lowest .ensures .0) (without .without .ensures) (first .cofactor .ensures)
+        contract-high-ready (start .pre .1 .0) (start .pre .1 .1) (lowest .lowest .ensures .0) (without .without .ensures) (first .cofactor .ensures)
             (second .cofactor2 .ensures) (low .contract .last .1 .0) (low .contract .last .0) (low .contract .result) (low .contract .ensures) l,
         start .pre .1 .1 .mask,
       ),
     )
 
-contract-split-same-length-3 : (t : ℕ) → contract-split-lts.Need-same-length-3 (contract-split-claims t) (contract-split-at t) contract-split.Post
+contract-split-same-length-3 : (t : ℕ)
+    → contract-split-lts.Need-same-length-3 (contract-split-claims t) (contract-split-at t) contract-split.Post
 contract-split-same-length-3 t c = search needs
 
-contract-split-same-length-4 : (t : ℕ) → contract-split-lts.Need-same-length-4 (contract-split-claims t) (contract-split-at t) contract-split.Post
+contract-split-same-length-4 : (t : ℕ)
+    → contract-split-lts.Need-same-length-4 (contract-split-claims t) (contract-split-at t) contract-split.Post
 contract-split-same-length-4 t c = search needs
 
-contract-split-returns-2 : (t : ℕ) → contract-split-lts.Need-returns-2 (contract-split-claims t) (contract-split-at t) contract-split.Post
+contract-split-returns-2 : (t : ℕ)
+    → contract-split-lts.Need-returns-2 (contract-split-claims t) (contract-split-at t) contract-split.Post
 contract-split-returns-2 t c =
     let high = c .before .before .before .before in
     let low = high .before .before .before .before .before .before .before .before .before .before in
@@ -391,7 +439,7 @@ contract-split-returns-2 t c =
     let without = first .before .before in
     let lowest = without .before in
     let start = lowest .before .before .before .before in
-    contract-low-works (start .pre .1 .0) (start .pre .1 .1) (lowest .lowest .ensures .0) (without .without .ensures) (first .cofactor .ensures)
+    contract-low-refines (start .pre .1 .0) (start .pre .1 .1) (lowest .lowest .ensures .0) (without .without .ensures) (first .cofactor .ensures)
     (second .cofactor2 .ensures) (low .contract .last .1 .0) (low .contract .last .0) (low .contract .result) (low .contract .ensures)
     (high .before .before .before .before .l .given .1)
     (high .contract-high .last .1 .0) (high .contract-high .last .0) (high .contract-high .result) (high .contract-high .ensures)

@@ -1,4 +1,4 @@
-use Rattle.diagram.specs.Contracting.{factored-by}
+use Rattle.diagram.specs.ContractLaws.{factored-by}
 use borrow.Author.Needs.{needs}
 use Rattle.diagram.proofs.contract.factored.Statement.{statement}
 use Rattle.diagram.proofs.contract.factored.Tie as tie

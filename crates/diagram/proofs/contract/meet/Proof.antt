@@ -1,4 +1,4 @@
-use Rattle.diagram.specs.Contracting.{meet-sum, meet-join}
+use Rattle.diagram.specs.ContractLaws.{meet-sum, meet-join}
 use borrow.Author.Needs.{needs}
 use Rattle.diagram.proofs.contract.meet.Statement.{statement}
 use Rattle.diagram.proofs.contract.meet.Tie as tie

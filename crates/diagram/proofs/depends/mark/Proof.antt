@@ -1,4 +1,4 @@
-use Rattle.diagram.specs.Depends.{mark-none, mark-node}
+use Rattle.diagram.specs.DependsLaws.{mark-none, mark-node}
 use borrow.Author.Needs.{needs}
 use Rattle.diagram.proofs.depends.mark.Statement.{statement}
 use Rattle.diagram.proofs.depends.mark.Tie as tie

@@ -1,4 +1,4 @@
-use Rattle.diagram.specs.Depends.{parent-low, parent-high, marked-by}
+use Rattle.diagram.specs.DependsLaws.{parent-low, parent-high, mark-by}
 use borrow.Author.Needs.{needs}
 use Rattle.diagram.proofs.depends.mark_node.Statement.{statement}
 use Rattle.diagram.proofs.depends.mark_node.Tie as tie
@@ -10,7 +10,7 @@ mark-requires-2 : tie.Need-mark-requires-2
 mark-requires-2 c κs = search (needs, parent-high)
 
 returns : tie.Need-returns
-returns c = search (needs, marked-by)
+returns c = search (needs, mark-by)
 
 pub mark-node-spec : {M : Type 1} → statement M
 mark-node-spec =

@@ -1,4 +1,4 @@
-use Rattle.diagram.specs.Cofactor.{cofactor-constant, cofactor-above, cofactor-low, cofactor-high, high-small}
+use Rattle.diagram.specs.EdgeLaws.{cofactor-constant, cofactor-above, cofactor-low, cofactor-high, high-small}
 use borrow.Author.Needs.{needs}
 use Rattle.diagram.proofs.edge.cofactor.Statement.{statement}
 use Rattle.diagram.proofs.edge.cofactor.Tie as tie

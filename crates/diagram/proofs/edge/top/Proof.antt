@@ -1,4 +1,4 @@
-use Rattle.diagram.specs.Edge.{top-none, top-node, top-inside}
+use Rattle.diagram.specs.EdgeLaws.{top-none, top-node, top-inside}
 use borrow.Author.Needs.{needs}
 use Rattle.diagram.proofs.edge.top.Statement.{statement}
 use Rattle.diagram.proofs.edge.top.Tie as tie

@@ -1,4 +1,4 @@
-use Rattle.diagram.specs.Entry.{bit-true, bit-false}
+use Rattle.diagram.specs.EntryLaws.{bit-true, bit-false}
 use borrow.Author.Needs.{needs}
 use Rattle.diagram.proofs.entry.bit.Statement.{statement}
 use Rattle.diagram.proofs.entry.bit.Tie as tie

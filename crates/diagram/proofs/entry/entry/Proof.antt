@@ -4,9 +4,9 @@ use mathlib.Core.List.{List, [], _∷_}
 use Prim.Native.Nat.{ℕ}
 use types.Run.{OneOf, miss}
 use denote.Enum.Declared.{tagOf}
-use Rattle.diagram.specs.Gates.{shape}
-use Rattle.diagram.specs.Matrices.{first, cx-table, cz-table, sw-table}
-use Rattle.diagram.specs.Entry.{entry-single, entry-pair}
+use Rattle.diagram.specs.Gate.{shape, firstQubit}
+use Rattle.diagram.specs.GateLaws.{cx-table, cz-table, sw-table}
+use Rattle.diagram.specs.EntryLaws.{entry-single, entry-pair}
 use Rattle.diagram.specs.declared.gate.Gate.{Gate}
 use Rattle.diagram.specs.declared.gate.Gate.the-variants as gate
 use Rattle.diagram.specs.declared.gate.Shape.the-variants.{One}
@@ -19,7 +19,7 @@ use Rattle.diagram.proofs.entry.entry.Tie as tie
 abbrev tags : List ℕ
 tags = 0 ∷ 1 ∷ 2 ∷ 3 ∷ 4 ∷ 5 ∷ 6 ∷ 7 ∷ []
 
-alone : (g : Gate) → OneOf tags (tagOf the-type g) → shape g ≡ One (first g)
+alone : (g : Gate) → OneOf tags (tagOf the-type g) → shape g ≡ One (firstQubit g)
 alone (gate.X q) k = refl
 alone (gate.Y q) k = refl
 alone (gate.Z q) k = refl

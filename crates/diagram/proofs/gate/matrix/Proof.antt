@@ -1,5 +1,5 @@
 -- Each arm's rows are those of the definition.
-use Rattle.diagram.specs.Matrices.{as-matrix}
+use Rattle.diagram.specs.GateLaws.{as-matrix}
 use borrow.Author.Needs.{needs}
 use Rattle.diagram.proofs.gate.matrix.Statement.{statement}
 use Rattle.diagram.proofs.gate.matrix.Tie as tie

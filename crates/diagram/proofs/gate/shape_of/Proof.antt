@@ -1,5 +1,5 @@
 -- Each arm's qubits are those of the definition.
-use Rattle.diagram.specs.Matrices.{as-shape}
+use Rattle.diagram.specs.GateLaws.{as-shape}
 use borrow.Author.Needs.{needs}
 use Rattle.diagram.proofs.gate.shape_of.Statement.{statement}
 use Rattle.diagram.proofs.gate.shape_of.Tie as tie

@@ -1,23 +1,24 @@
 use Prim.Native.Nat.{_≤_, _-_}
-use Rattle.diagram.specs.Insert.{Cleared, cleared-none, cleared-more, cleared-all}
+use Rattle.diagram.specs.Insert.{ClearEnsures}
+use Rattle.diagram.specs.InsertLaws.{clear-none, clear-more, clear-all}
 use borrow.Author.Needs.{needs}
 use Rattle.diagram.proofs.insert.clear.Statement.{statement}
 use Rattle.diagram.proofs.insert.clear.Tie as tie
 
 abbrev Inv-loop : tie.InvT-loop
-Inv-loop s₀ buckets b₀ s b = Cleared s₀ s b × (b ≤ buckets)
+Inv-loop s₀ buckets b₀ s b = ClearEnsures s₀ s b × (b ≤ buckets)
 
 abbrev μ-loop : tie.MeasureT-loop
 μ-loop s₀ buckets b₀ s b = buckets - b
 
 loop-holds : tie.Need-loop-holds Inv-loop μ-loop
-loop-holds c = search (needs, cleared-none)
+loop-holds c = search (needs, clear-none)
 
 loop-again : tie.Need-loop-again Inv-loop μ-loop
-loop-again c = search (needs, cleared-more)
+loop-again c = search (needs, clear-more)
 
 returns : tie.Need-returns Inv-loop μ-loop
-returns c = search (needs, cleared-all)
+returns c = search (needs, clear-all)
 
 pub clear-spec : {M : Type 1} → statement M
 clear-spec =

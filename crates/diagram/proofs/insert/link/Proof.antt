@@ -1,10 +1,10 @@
-use Rattle.diagram.specs.Insert.{linked-by}
+use Rattle.diagram.specs.InsertLaws.{link-by}
 use borrow.Author.Needs.{needs}
 use Rattle.diagram.proofs.insert.link.Statement.{statement}
 use Rattle.diagram.proofs.insert.link.Tie as tie
 
 returns : tie.Need-returns
-returns c = search (needs, linked-by)
+returns c = search (needs, link-by)
 
 pub link-spec : {M : Type 1} → statement M
 link-spec =

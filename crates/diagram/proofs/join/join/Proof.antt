@@ -1,20 +1,20 @@
 -- The four ways out are the four cases of the tally's join.
-use Rattle.diagram.specs.Join.{joined-same, normalisable, joined-full, joined-made}
+use Rattle.diagram.specs.JoinLaws.{join-equal, normalise-allowed, join-full, join-made}
 use borrow.Author.Needs.{needs}
 use Rattle.diagram.proofs.join.join.Statement.{statement}
 use Rattle.diagram.proofs.join.join.Tie as tie
 
 returns : tie.Need-returns
-returns c = search (needs, joined-same)
+returns c = search (needs, join-equal)
 
 normalise-requires : tie.Need-normalise-requires
-normalise-requires c κs = search (needs, normalisable)
+normalise-requires c κs = search (needs, normalise-allowed)
 
 returns-2 : tie.Need-returns-2
-returns-2 c = search (needs, joined-full)
+returns-2 c = search (needs, join-full)
 
 returns-3 : tie.Need-returns-3
-returns-3 c = search (needs, joined-made)
+returns-3 c = search (needs, join-made)
 
 pub join-spec : {M : Type 1} → statement M
 join-spec =

@@ -1,13 +1,16 @@
 use borrow.Author.Needs.{needs}
 use native.Mathlib.Omega.{arith}
 use Prim.Native.Nat.{_+_, _*_}
-use Rattle.diagram.specs.Cache.{looked-up}
-use Rattle.diagram.specs.Operation.{works-fit, works-hit, works-kept}
-use Rattle.diagram.specs.Halving.{rank, fixable-left, part-ready, part-less}
-use Rattle.diagram.specs.Lowering.{lower-above, bare-rank, bare-ready, bare-lowered, lower-times, lower-narrow, lower-asked, lower-known}
-use Rattle.diagram.specs.Lowering.{lower-inside, lower-lowest, lower-fixable, here-joinable, here-works, lower-between, lower-part}
-use Rattle.diagram.specs.Lowering.{lower-low-failed, lower-halfway, lower-rank, lower-still}
-use Rattle.diagram.specs.Lowering.{lower-low-works, lower-high-failed, lower-joinable, lower-high-works}
+use Rattle.diagram.specs.CacheLaws.{lookup-is}
+use Rattle.diagram.specs.OperationLaws.{cached-fits, cached-hit, cached-kept}
+use Rattle.diagram.specs.HalvesLaws.{fixable-left, part-ready, part-less}
+use Rattle.diagram.specs.Operation.{edgesMeasure}
+use Rattle.diagram.specs.LowerLaws.{lower-above, lower-reduced-measure, lower-reduced-ready, lower-reduced}
+use Rattle.diagram.specs.LowerLaws.{lower-times, lower-key-fits, lower-key-step, lower-known}
+use Rattle.diagram.specs.LowerLaws.{lower-inside, lower-lowest, lower-fixable, here-joinable, here-refines}
+use Rattle.diagram.specs.LowerLaws.{lower-between, lower-part}
+use Rattle.diagram.specs.LowerLaws.{lower-low-full, lower-high-ready, lower-measure, lower-still}
+use Rattle.diagram.specs.LowerLaws.{lower-low-refines, lower-high-full, lower-joinable, lower-high-refines}
 use Prim.Native.Nat.{ℕ, _<_}
 use borrow.Fn.Kinds.{In}
 use borrow.Fn.PlainCycle.{Measures, is, falls, and}
@@ -34,16 +37,16 @@ use Rattle.diagram.proofs.lower.+lower+lower_cached+lower_high+lower_sp
 use Rattle.diagram.proofs.lower.+lower+lower_cached+lower_high+lower_split.Tie.{close}
 
 abbrev μ-lower : Measures 2 lower-kinds.ps ℕ
-μ-lower κs a = 4 * rank (a .0 .now) (a .1 .1 .0) (a .1 .1 .1 .0) (a .1 .1 .1 .0) + 3
+μ-lower κs a = 4 * edgesMeasure (a .0 .now) (a .1 .1 .0) (a .1 .1 .1 .0) (a .1 .1 .1 .0) + 3
 
 abbrev μ-lower-cached : Measures 2 lower-cached-kinds.ps ℕ
-μ-lower-cached κs a = 4 * rank (a .0 .now) (a .1 .1 .0) (a .1 .1 .1 .0) (a .1 .1 .1 .0) + 2
+μ-lower-cached κs a = 4 * edgesMeasure (a .0 .now) (a .1 .1 .0) (a .1 .1 .1 .0) (a .1 .1 .1 .0) + 2
 
 abbrev μ-lower-high : Measures 2 lower-high-kinds.ps ℕ
-μ-lower-high κs a = 4 * rank (a .0 .now) (a .1 .1 .0) (a .1 .1 .1 .0) (a .1 .1 .1 .0)
+μ-lower-high κs a = 4 * edgesMeasure (a .0 .now) (a .1 .1 .0) (a .1 .1 .1 .0) (a .1 .1 .1 .0)
 
 abbrev μ-lower-split : Measures 2 lower-split-kinds.ps ℕ
-μ-lower-split κs a = 4 * rank (a .0 .now) (a .1 .1 .0) (a .1 .1 .1 .0) (a .1 .1 .1 .0) + 1
+μ-lower-split κs a = 4 * edgesMeasure (a .0 .now) (a .1 .1 .0) (a .1 .1 .1 .0) (a .1 .1 .1 .0) + 1
 
 abbrev lower-at : ℕ → In 2 lower-kinds.ps
 lower-at t = and 2 lower-kinds.ps (is 2 lower-kinds.ps μ-lower t) lower.Pre
@@ -80,7 +83,8 @@ lower-split-below t =
     and 2 lower-split-kinds.ps (falls 2 lower-split-kinds.ps _<_ μ-lower-split t) lower-split.Pre
 
 abbrev lower-claims : ℕ → lower-lts.Claims
-lower-claims t = (top-reads.Asked, top-reads.Learnt, lower-cached-below t, lower-cached.Post, times-reads.Asked, times-reads.Learnt)
+lower-claims t =
+    (top-reads.Asked, top-reads.Learnt, lower-cached-below t, lower-cached.Post, times-reads.Asked, times-reads.Learnt)
 
 abbrev lower-cached-claims : ℕ → lower-cached-lts.Claims
 lower-cached-claims t = (
@@ -95,7 +99,8 @@ lower-cached-claims t = (
 )
 
 abbrev lower-high-claims : ℕ → lower-high-lts.Claims
-lower-high-claims t = (cofactor-reads.Asked, cofactor-reads.Learnt, lower-below t, lower.Post, join-reads.Asked, join-reads.Learnt)
+lower-high-claims t =
+    (cofactor-reads.Asked, cofactor-reads.Learnt, lower-below t, lower.Post, join-reads.Asked, join-reads.Learnt)
 
 abbrev lower-split-claims : ℕ → lower-split-lts.Claims
 lower-split-claims t = (
@@ -114,9 +119,6 @@ lower-split-claims t = (
 lower-top-requires : (t : ℕ) → lower-lts.Need-top-requires (lower-claims t) (lower-at t) lower.Post
 lower-top-requires t c κs = search needs
 
-lower-add-if1 : (t : ℕ) → lower-lts.Need-add-if1 (lower-claims t) (lower-at t) lower.Post
-lower-add-if1 t c = search needs
-
 lower-same-length : (t : ℕ) → lower-lts.Need-same-length (lower-claims t) (lower-at t) lower.Post
 lower-same-length t c = search needs
 
@@ -128,15 +130,15 @@ lower-lower-cached-requires t c κs =
     let top = c .before .before .before in
     let start = top .before .before .before .before in
     let pre = start .pre .1 in (
-      omega (arith, bare-rank (pre .0) (pre .1 .0) (pre .1 .1) (top .top .ensures .0) (c .before .before .if1 .left), start .pre .0),
+      omega (arith, lower-reduced-measure (pre .0) (pre .1) (top .top .ensures .0) (c .before .before .if1 .left), start .pre .0),
       (
-        bare-ready (pre .0) (pre .1 .0) (pre .1 .1) (top .top .ensures .0) (c .before .before .if1 .left),
-        bare-lowered (pre .0) (pre .1 .0) (pre .1 .1) (top .top .ensures .0) (c .before .before .if1 .left),
+        lower-reduced-ready (pre .0) (pre .1) (top .top .ensures .0) (c .before .before .if1 .left),
+        lower-reduced (pre .0) (pre .1) (top .top .ensures .0) (c .before .before .if1 .left),
       ),
     )
 
 lower-times-requires : (t : ℕ) → lower-lts.Need-times-requires (lower-claims t) (lower-at t) lower.Post
-lower-times-requires t c κs = search (needs, works-fit)
+lower-times-requires t c κs = search (needs, cached-fits)
 
 lower-same-length-2 : (t : ℕ) → lower-lts.Need-same-length-2 (lower-claims t) (lower-at t) lower.Post
 lower-same-length-2 t c = search needs
@@ -149,58 +151,71 @@ lower-returns-2 t c =
     let cached = c .before .before .before .before .before in
     let test = cached .before .before .before in
     let pre = test .before .before .before .before .before .pre .1 in
-    lower-times (pre .0) (pre .1 .0) (pre .1 .1) (test .before .top .ensures .0) (test .if1 .left)
+    lower-times (pre .0) (pre .1) (test .before .top .ensures .0) (test .if1 .left)
     (cached .lower-cached .last .1 .0) (cached .lower-cached .last .0) (cached .lower-cached .result) (c .times .result)
     (cached .lower-cached .ensures) (c .times .ensures)
 
-lower-cached-wide-requires : (t : ℕ) → lower-cached-lts.Need-wide-requires (lower-cached-claims t) (lower-cached-at t) lower-cached.Post
+lower-cached-wide-requires : (t : ℕ)
+    → lower-cached-lts.Need-wide-requires (lower-cached-claims t) (lower-cached-at t) lower-cached.Post
 lower-cached-wide-requires t c κs = search needs
 
-lower-cached-lookup-requires : (t : ℕ) → lower-cached-lts.Need-lookup-requires (lower-cached-claims t) (lower-cached-at t) lower-cached.Post
-lower-cached-lookup-requires t c κs = search (needs, lower-narrow)
+lower-cached-lookup-requires : (t : ℕ)
+    → lower-cached-lts.Need-lookup-requires (lower-cached-claims t) (lower-cached-at t) lower-cached.Post
+lower-cached-lookup-requires t c κs = search (needs, lower-key-fits)
 
-lower-cached-enum-known-e : (t : ℕ) → lower-cached-lts.Need-enum-known-e (lower-cached-claims t) (lower-cached-at t) lower-cached.Post
+lower-cached-enum-known-e : (t : ℕ)
+    → lower-cached-lts.Need-enum-known-e (lower-cached-claims t) (lower-cached-at t) lower-cached.Post
 lower-cached-enum-known-e t c = search needs
 
-lower-cached-same-length : (t : ℕ) → lower-cached-lts.Need-same-length (lower-cached-claims t) (lower-cached-at t) lower-cached.Post
+lower-cached-same-length : (t : ℕ)
+    → lower-cached-lts.Need-same-length (lower-cached-claims t) (lower-cached-at t) lower-cached.Post
 lower-cached-same-length t c = search needs
 
-lower-cached-returns : (t : ℕ) → lower-cached-lts.Need-returns (lower-cached-claims t) (lower-cached-at t) lower-cached.Post
+lower-cached-returns : (t : ℕ)
+    → lower-cached-lts.Need-returns (lower-cached-claims t) (lower-cached-at t) lower-cached.Post
 lower-cached-returns t c =
     let lookup = c .before .before .before in
     let wide = lookup .before .before in
     let pre = wide .before .before .before .pre .1 in
-    works-hit (pre .0) (lower-asked (pre .0) (pre .1) (wide .wide .ensures)) (looked-up _ (lookup .lookup .ensures) (c .before .e .given .1))
+    cached-hit (pre .0) (lower-key-step (pre .0) (pre .1) (wide .wide .ensures)) (lookup-is _ (lookup .lookup .ensures) (c .before .e .given .1))
 
-lower-cached-enum-told : (t : ℕ) → lower-cached-lts.Need-enum-told (lower-cached-claims t) (lower-cached-at t) lower-cached.Post
+lower-cached-enum-told : (t : ℕ)
+    → lower-cached-lts.Need-enum-told (lower-cached-claims t) (lower-cached-at t) lower-cached.Post
 lower-cached-enum-told t c = search needs
 
-lower-cached-lower-split-requires : (t : ℕ) → lower-cached-lts.Need-lower-split-requires (lower-cached-claims t) (lower-cached-at t) lower-cached.Post
+lower-cached-lower-split-requires : (t : ℕ)
+    → lower-cached-lts.Need-lower-split-requires (lower-cached-claims t) (lower-cached-at t) lower-cached.Post
 lower-cached-lower-split-requires t c κs = search needs
 
-lower-cached-keep-requires : (t : ℕ) → lower-cached-lts.Need-keep-requires (lower-cached-claims t) (lower-cached-at t) lower-cached.Post
-lower-cached-keep-requires t c κs = search (needs, lower-narrow, works-fit)
+lower-cached-keep-requires : (t : ℕ)
+    → lower-cached-lts.Need-keep-requires (lower-cached-claims t) (lower-cached-at t) lower-cached.Post
+lower-cached-keep-requires t c κs = search (needs, lower-key-fits, cached-fits)
 
-lower-cached-same-length-2 : (t : ℕ) → lower-cached-lts.Need-same-length-2 (lower-cached-claims t) (lower-cached-at t) lower-cached.Post
+lower-cached-same-length-2 : (t : ℕ)
+    → lower-cached-lts.Need-same-length-2 (lower-cached-claims t) (lower-cached-at t) lower-cached.Post
 lower-cached-same-length-2 t c = search needs
 
-lower-cached-same-length-3 : (t : ℕ) → lower-cached-lts.Need-same-length-3 (lower-cached-claims t) (lower-cached-at t) lower-cached.Post
+lower-cached-same-length-3 : (t : ℕ)
+    → lower-cached-lts.Need-same-length-3 (lower-cached-claims t) (lower-cached-at t) lower-cached.Post
 lower-cached-same-length-3 t c = search needs
 
-lower-cached-returns-2 : (t : ℕ) → lower-cached-lts.Need-returns-2 (lower-cached-claims t) (lower-cached-at t) lower-cached.Post
+lower-cached-returns-2 : (t : ℕ)
+    → lower-cached-lts.Need-returns-2 (lower-cached-claims t) (lower-cached-at t) lower-cached.Post
 lower-cached-returns-2 t c =
     let keep = c .before .before in
     let split = keep .before .before .before .before .before .before in
     let wide = split .before .before .before .before .before .before .before in
     let pre = wide .before .before .before .pre .1 in
-    works-kept (split .lower-split .last .1 .0) (keep .keep .last .0) (split .lower-split .last .0) _ _ (split .lower-split .result)
-    (pre .0) (lower-asked (pre .0) (pre .1) (wide .wide .ensures)) (pre .0 .left .within) (pre .0 .left .within) (lower-known (pre .0) (pre .1))
+    cached-kept (split .lower-split .last .1 .0) (keep .keep .last .0) (split .lower-split .last .0) _ _ (split .lower-split .result)
+    (pre .0) (lower-key-step (pre .0) (pre .1) (wide .wide .ensures)) (pre .0 .left .within) (pre .0 .left .within) (lower-known (pre .0) (pre .1))
     (split .lower-split .ensures) (keep .keep .ensures)
 
-lower-high-cofactor-requires : (t : ℕ) → lower-high-lts.Need-cofactor-requires (lower-high-claims t) (lower-high-at t) lower-high.Post
+lower-high-cofactor-requires : (t : ℕ)
+    → lower-high-lts.Need-cofactor-requires (lower-high-claims t) (lower-high-at t) lower-high.Post
 lower-high-cofactor-requires t c κs = search (needs, fixable-left)
 
-lower-high-lower-requires : (t : ℕ) → lower-high-lts.Need-lower-requires (lower-high-claims t) (lower-high-at t) lower-high.Post
+lower-high-lower-requires : (t : ℕ)
+    → lower-high-lts.Need-lower-requires (lower-high-claims t) (lower-high-at t) lower-high.Post
 lower-high-lower-requires t c κs =
     let first = c .before .before in
     let start = first .before .before .before .before in
@@ -209,26 +224,30 @@ lower-high-lower-requires t c κs =
       omega (arith, part-less (w .ready) (w .inside) (w .lowest) (first .cofactor .ensures) (first .cofactor .ensures), start .pre .0),
       (
         part-ready (w .ready) (w .inside) (w .lowest) (first .cofactor .ensures) (first .cofactor .ensures),
-        (x .small, lower-part (w .ready) (w .lowest) x (first .cofactor .ensures)),
+        lower-part (w .ready) (w .lowest) x (first .cofactor .ensures),
       ),
     )
 
-lower-high-enum-known-h : (t : ℕ) → lower-high-lts.Need-enum-known-h (lower-high-claims t) (lower-high-at t) lower-high.Post
+lower-high-enum-known-h : (t : ℕ)
+    → lower-high-lts.Need-enum-known-h (lower-high-claims t) (lower-high-at t) lower-high.Post
 lower-high-enum-known-h t c = search needs
 
 lower-high-enum-told : (t : ℕ) → lower-high-lts.Need-enum-told (lower-high-claims t) (lower-high-at t) lower-high.Post
 lower-high-enum-told t c = search needs
 
-lower-high-same-length : (t : ℕ) → lower-high-lts.Need-same-length (lower-high-claims t) (lower-high-at t) lower-high.Post
+lower-high-same-length : (t : ℕ)
+    → lower-high-lts.Need-same-length (lower-high-claims t) (lower-high-at t) lower-high.Post
 lower-high-same-length t c = search needs
 
-lower-high-same-length-2 : (t : ℕ) → lower-high-lts.Need-same-length-2 (lower-high-claims t) (lower-high-at t) lower-high.Post
+lower-high-same-length-2 : (t : ℕ)
+    → lower-high-lts.Need-same-length-2 (lower-high-claims t) (lower-high-at t) lower-high.Post
 lower-high-same-length-2 t c = search needs
 
 lower-high-returns : (t : ℕ) → lower-high-lts.Need-returns (lower-high-claims t) (lower-high-at t) lower-high.Post
-lower-high-returns t c = search (needs, lower-high-failed)
+lower-high-returns t c = search (needs, lower-high-full)
 
-lower-high-join-requires : (t : ℕ) → lower-high-lts.Need-join-requires (lower-high-claims t) (lower-high-at t) lower-high.Post
+lower-high-join-requires : (t : ℕ)
+    → lower-high-lts.Need-join-requires (lower-high-claims t) (lower-high-at t) lower-high.Post
 lower-high-join-requires t c κs =
     let high = c .before .before .before .before .before .before .before .before in
     let first = high .before .before .before in
@@ -236,10 +255,12 @@ lower-high-join-requires t c κs =
     lower-joinable (start .pre .1 .0) (start .pre .1 .1) (first .cofactor .ensures)
     (high .lower .last .1 .0) (high .lower .last .0) (high .lower .result) (high .lower .ensures) (c .before .before .h .given .1)
 
-lower-high-same-length-3 : (t : ℕ) → lower-high-lts.Need-same-length-3 (lower-high-claims t) (lower-high-at t) lower-high.Post
+lower-high-same-length-3 : (t : ℕ)
+    → lower-high-lts.Need-same-length-3 (lower-high-claims t) (lower-high-at t) lower-high.Post
 lower-high-same-length-3 t c = search needs
 
-lower-high-same-length-4 : (t : ℕ) → lower-high-lts.Need-same-length-4 (lower-high-claims t) (lower-high-at t) lower-high.Post
+lower-high-same-length-4 : (t : ℕ)
+    → lower-high-lts.Need-same-length-4 (lower-high-claims t) (lower-high-at t) lower-high.Post
 lower-high-same-length-4 t c = search needs
 
 lower-high-returns-2 : (t : ℕ) → lower-high-lts.Need-returns-2 (lower-high-claims t) (lower-high-at t) lower-high.Post
@@ -248,32 +269,39 @@ lower-high-returns-2 t c =
     let high = join .before .before .before .before .before .before .before .before .before in
     let first = high .before .before .before in
     let start = first .before .before .before .before in
-    lower-high-works (start .pre .1 .0) (start .pre .1 .1) (first .cofactor .ensures)
+    lower-high-refines (start .pre .1 .0) (start .pre .1 .1) (first .cofactor .ensures)
     (high .lower .last .1 .0) (high .lower .last .0) (high .lower .result) (high .lower .ensures) (join .before .before .before .h .given .1)
     (join .join .last .0) (join .join .result) (join .join .ensures)
 
-lower-split-top-requires : (t : ℕ) → lower-split-lts.Need-top-requires (lower-split-claims t) (lower-split-at t) lower-split.Post
+lower-split-top-requires : (t : ℕ)
+    → lower-split-lts.Need-top-requires (lower-split-claims t) (lower-split-at t) lower-split.Post
 lower-split-top-requires t c κs = search needs
 
-lower-split-cofactor-requires : (t : ℕ) → lower-split-lts.Need-cofactor-requires (lower-split-claims t) (lower-split-at t) lower-split.Post
+lower-split-cofactor-requires : (t : ℕ)
+    → lower-split-lts.Need-cofactor-requires (lower-split-claims t) (lower-split-at t) lower-split.Post
 lower-split-cofactor-requires t c κs = search (needs, lower-fixable)
 
-lower-split-add-if1 : (t : ℕ) → lower-split-lts.Need-add-if1 (lower-split-claims t) (lower-split-at t) lower-split.Post
-lower-split-add-if1 t c = search needs
-
-lower-split-cofactor-requires-2 : (t : ℕ) → lower-split-lts.Need-cofactor-requires-2 (lower-split-claims t) (lower-split-at t) lower-split.Post
+lower-split-cofactor-requires-2 : (t : ℕ)
+    → lower-split-lts.Need-cofactor-requires-2 (lower-split-claims t) (lower-split-at t) lower-split.Post
 lower-split-cofactor-requires-2 t c κs = search (needs, lower-fixable)
 
-lower-split-join-requires : (t : ℕ) → lower-split-lts.Need-join-requires (lower-split-claims t) (lower-split-at t) lower-split.Post
+lower-split-sub-join : (t : ℕ)
+    → lower-split-lts.Need-sub-join (lower-split-claims t) (lower-split-at t) lower-split.Post
+lower-split-sub-join t c = search needs
+
+lower-split-join-requires : (t : ℕ)
+    → lower-split-lts.Need-join-requires (lower-split-claims t) (lower-split-at t) lower-split.Post
 lower-split-join-requires t c κs = search (needs, here-joinable)
 
-lower-split-same-length : (t : ℕ) → lower-split-lts.Need-same-length (lower-split-claims t) (lower-split-at t) lower-split.Post
+lower-split-same-length : (t : ℕ)
+    → lower-split-lts.Need-same-length (lower-split-claims t) (lower-split-at t) lower-split.Post
 lower-split-same-length t c = search needs
 
 lower-split-returns : (t : ℕ) → lower-split-lts.Need-returns (lower-split-claims t) (lower-split-at t) lower-split.Post
-lower-split-returns t c = search (needs, here-works)
+lower-split-returns t c = search (needs, here-refines)
 
-lower-split-lower-requires : (t : ℕ) → lower-split-lts.Need-lower-requires (lower-split-claims t) (lower-split-at t) lower-split.Post
+lower-split-lower-requires : (t : ℕ)
+    → lower-split-lts.Need-lower-requires (lower-split-claims t) (lower-split-at t) lower-split.Post
 lower-split-lower-requires t c κs =
     let test = c .before .before in
     let first = test .before in
@@ -285,26 +313,32 @@ lower-split-lower-requires t c κs =
       omega (arith, part-less g (lower-inside g x k) (lower-lowest g x k) (first .cofactor .ensures) (first .cofactor .ensures), start .pre .0),
       (
         part-ready g (lower-inside g x k) (lower-lowest g x k) (first .cofactor .ensures) (first .cofactor .ensures),
-        (x .small, lower-part g (lower-lowest g x k) (lower-between g x k (test .if1 .left)) (first .cofactor .ensures)),
+        lower-part g (lower-lowest g x k) (lower-between g x k (test .if1 .left)) (first .cofactor .ensures),
       ),
     )
 
-lower-split-enum-known-l : (t : ℕ) → lower-split-lts.Need-enum-known-l (lower-split-claims t) (lower-split-at t) lower-split.Post
+lower-split-enum-known-l : (t : ℕ)
+    → lower-split-lts.Need-enum-known-l (lower-split-claims t) (lower-split-at t) lower-split.Post
 lower-split-enum-known-l t c = search needs
 
-lower-split-enum-told : (t : ℕ) → lower-split-lts.Need-enum-told (lower-split-claims t) (lower-split-at t) lower-split.Post
+lower-split-enum-told : (t : ℕ)
+    → lower-split-lts.Need-enum-told (lower-split-claims t) (lower-split-at t) lower-split.Post
 lower-split-enum-told t c = search needs
 
-lower-split-same-length-2 : (t : ℕ) → lower-split-lts.Need-same-length-2 (lower-split-claims t) (lower-split-at t) lower-split.Post
+lower-split-same-length-2 : (t : ℕ)
+    → lower-split-lts.Need-same-length-2 (lower-split-claims t) (lower-split-at t) lower-split.Post
 lower-split-same-length-2 t c = search needs
 
-lower-split-same-length-3 : (t : ℕ) → lower-split-lts.Need-same-length-3 (lower-split-claims t) (lower-split-at t) lower-split.Post
+lower-split-same-length-3 : (t : ℕ)
+    → lower-split-lts.Need-same-length-3 (lower-split-claims t) (lower-split-at t) lower-split.Post
 lower-split-same-length-3 t c = search needs
 
-lower-split-returns-2 : (t : ℕ) → lower-split-lts.Need-returns-2 (lower-split-claims t) (lower-split-at t) lower-split.Post
-lower-split-returns-2 t c = search (needs, lower-low-failed)
+lower-split-returns-2 : (t : ℕ)
+    → lower-split-lts.Need-returns-2 (lower-split-claims t) (lower-split-at t) lower-split.Post
+lower-split-returns-2 t c = search (needs, lower-low-full)
 
-lower-split-lower-high-requires : (t : ℕ) → lower-split-lts.Need-lower-high-requires (lower-split-claims t) (lower-split-at t) lower-split.Post
+lower-split-lower-high-requires : (t : ℕ)
+    → lower-split-lts.Need-lower-high-requires (lower-split-claims t) (lower-split-at t) lower-split.Post
 lower-split-lower-high-requires t c κs =
     let low = c .before .before .before .before .before .before .before .before .before in
     let test = low .before .before .before in
@@ -314,24 +348,27 @@ lower-split-lower-high-requires t c κs =
     let g = start .pre .1 .0 in
     let x = start .pre .1 .1 in
     let l = c .before .before .before .l .given .1 in
-    let same = lower-rank g x (top .top .ensures .0) (test .if1 .left) (first .cofactor .ensures)
+    let same = lower-measure g x (top .top .ensures .0) (test .if1 .left) (first .cofactor .ensures)
     (low .lower .last .1 .0) (low .lower .last .0) (low .lower .result) (low .lower .ensures) l in (
       omega (arith, same, start .pre .0),
       (
-        lower-halfway g x (top .top .ensures .0) (test .if1 .left) (first .cofactor .ensures)
+        lower-high-ready g x (top .top .ensures .0) (test .if1 .left) (first .cofactor .ensures)
             (low .lower .last .1 .0) (low .lower .last .0) (low .lower .result) (low .lower .ensures) l,
         lower-still g x (top .top .ensures .0) (test .if1 .left) (first .cofactor .ensures)
             (low .lower .last .1 .0) (low .lower .last .0) (low .lower .result) (low .lower .ensures) l,
       ),
     )
 
-lower-split-same-length-4 : (t : ℕ) → lower-split-lts.Need-same-length-4 (lower-split-claims t) (lower-split-at t) lower-split.Post
+lower-split-same-length-4 : (t : ℕ)
+    → lower-split-lts.Need-same-length-4 (lower-split-claims t) (lower-split-at t) lower-split.Post
 lower-split-same-length-4 t c = search needs
 
-lower-split-same-length-5 : (t : ℕ) → lower-split-lts.Need-same-length-5 (lower-split-claims t) (lower-split-at t) lower-split.Post
+lower-split-same-length-5 : (t : ℕ)
+    → lower-split-lts.Need-same-length-5 (lower-split-claims t) (lower-split-at t) lower-split.Post
 lower-split-same-length-5 t c = search needs
 
-lower-split-returns-3 : (t : ℕ) → lower-split-lts.Need-returns-3 (lower-split-claims t) (lower-split-at t) lower-split.Post
+lower-split-returns-3 : (t : ℕ)
+    → lower-split-lts.Need-returns-3 (lower-split-claims t) (lower-split-at t) lower-split.Post
 lower-split-returns-3 t c =
     let high = c .before .before .before .before in
     let low = high .before .before .before .before .before .before .before .before .before .before in
@@ -339,7 +376,7 @@ lower-split-returns-3 t c =
     let first = test .before in
     let top = first .before .before in
     let start = top .before .before .before .before in
-    lower-low-works (start .pre .1 .0) (start .pre .1 .1) (top .top .ensures .0) (test .if1 .left) (first .cofactor .ensures)
+    lower-low-refines (start .pre .1 .0) (start .pre .1 .1) (top .top .ensures .0) (test .if1 .left) (first .cofactor .ensures)
     (low .lower .last .1 .0) (low .lower .last .0) (low .lower .result) (low .lower .ensures) (high .before .before .before .before .l .given .1)
     (high .lower-high .last .1 .0) (high .lower-high .last .0) (high .lower-high .result) (high .lower-high .ensures)
 
@@ -348,7 +385,6 @@ pub +lower+lower-cached+lower-high+lower-split-spec : {M : Type 1} → statement
     close μ-lower μ-lower-cached μ-lower-high μ-lower-split (λ t. lower-lts.spec (lower-claims t) (lower-at t)
     lower.Post
     (lower-top-requires t)
-    (lower-add-if1 t)
     (lower-same-length t)
     (lower-returns t)
     (lower-lower-cached-requires t)
@@ -386,8 +422,8 @@ pub +lower+lower-cached+lower-high+lower-split-spec : {M : Type 1} → statement
     lower-split.Post
     (lower-split-top-requires t)
     (lower-split-cofactor-requires t)
-    (lower-split-add-if1 t)
     (lower-split-cofactor-requires-2 t)
+    (lower-split-sub-join t)
     (lower-split-join-requires t)
     (lower-split-same-length t)
     (lower-split-returns t)

@@ -1,26 +1,26 @@
 -- Found, full, or one node more: one law for each.
-use Rattle.diagram.specs.Make.{stored-table, made-none, made-old, made-full, made-new}
+use Rattle.diagram.specs.MakeLaws.{state-sound-table, make-none, make-old, make-no-room, make-new}
 use borrow.Author.Needs.{needs}
 use Rattle.diagram.proofs.make.make.Statement.{statement}
 use Rattle.diagram.proofs.make.make.Tie as tie
 
 returns : tie.Need-returns
-returns c = search (needs, made-none)
+returns c = search (needs, make-none)
 
 find-requires : tie.Need-find-requires
-find-requires c κs = search (needs, stored-table)
+find-requires c κs = search (needs, state-sound-table)
 
 returns-2 : tie.Need-returns-2
-returns-2 c = search (needs, made-old)
+returns-2 c = search (needs, make-old)
 
 returns-3 : tie.Need-returns-3
-returns-3 c = search (needs, made-full)
+returns-3 c = search (needs, make-no-room)
 
 append-requires : tie.Need-append-requires
-append-requires c κs = (search (needs, stored-table), search needs)
+append-requires c κs = (search (needs, state-sound-table), search needs)
 
 returns-4 : tie.Need-returns-4
-returns-4 c = search (needs, made-new)
+returns-4 c = search (needs, make-new)
 
 pub make-spec : {M : Type 1} → statement M
 make-spec =

@@ -1,13 +1,14 @@
-use Rattle.diagram.specs.Mark.{looked-dead, looked-live}
+use Rattle.diagram.specs.MarkLaws.{look-dead, look-live}
 use borrow.Author.Needs.{needs}
 use Rattle.diagram.proofs.mark.look.Statement.{statement}
 use Rattle.diagram.proofs.mark.look.Tie as tie
 
 returns : tie.Need-returns
-returns c = let start = c .before .before .before .before in looked-dead (c .before .get .ensures .0) (start .pre .0 .first) (start .pre .1 .0) (c .if1 .taken)
+returns c = let start = c .before .before .before .before in look-dead (c .before .get .ensures .0) (start .pre .0 .first) (start .pre .1 .0) (c .if1 .taken)
 
 mark-requires : tie.Need-mark-requires
-mark-requires c κs = rw (c .before .read .ensures .0) (c .before .before .before .before .before .before .before .pre .1 .1 .low-within)
+mark-requires c κs =
+    rw (c .before .read .ensures .0) (c .before .before .before .before .before .before .before .pre .1 .1 .low-within)
 
 mark-requires-2 : tie.Need-mark-requires-2
 mark-requires-2 c κs = rw (c .before .before .before .mark .ensures .long, c .before .before .before .before .before .read .ensures .0) (c .before .before .before .before .before .before .before .before .before .before .before .pre .1 .1 .high-within)
@@ -15,7 +16,7 @@ mark-requires-2 c κs = rw (c .before .before .before .mark .ensures .long, c .b
 returns-2 : tie.Need-returns-2
 returns-2 c =
     let start = c .before .before .before .before .before .before .before .before .before .before .before .before .before .before in
-    looked-live (c .before .before .before .before .before .before .before .before .before .before .before .get .ensures .0) (start .pre .0 .first) (start .pre .1 .0) (c .before .before .before .before .before .before .before .before .before .before .if1 .left) (c .before .before .before .before .before .before .before .before .read .ensures .0) (c .before .before .before .before .before .before .mark .ensures) (c .before .before .mark2 .ensures)
+    look-live (c .before .before .before .before .before .before .before .before .before .before .before .get .ensures .0) (start .pre .0 .first) (start .pre .1 .0) (c .before .before .before .before .before .before .before .before .before .before .if1 .left) (c .before .before .before .before .before .before .before .before .read .ensures .0) (c .before .before .before .before .before .before .mark .ensures) (c .before .before .mark2 .ensures)
 
 pub look-spec : {M : Type 1} → statement M
 look-spec =

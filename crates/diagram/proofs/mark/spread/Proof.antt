@@ -1,4 +1,5 @@
-use Rattle.diagram.specs.Mark.{Marking, marking-start, marking-end, down-children}
+use Rattle.diagram.specs.Mark.{SpreadLoop}
+use Rattle.diagram.specs.MarkLaws.{spread-start, spread-end, children-within}
 use Rattle.diagram.specs.Node.{nodeAt}
 use Rattle.diagram.specs.Fields.{field}
 use lib.ListN.{length}
@@ -9,13 +10,14 @@ use Rattle.diagram.proofs.mark.spread.Statement.{statement}
 use Rattle.diagram.proofs.mark.spread.Tie as tie
 
 abbrev Inv-loop : tie.InvT-loop
-Inv-loop s₀ count n₀ s n = Marking (λ j. field s₀ 5 (j - 1)) (nodeAt s₀) count s n × (n ≤ count) × (length s ≡ length s₀)
+Inv-loop s₀ count n₀ s n =
+    SpreadLoop (λ j. field s₀ 5 (j - 1)) (nodeAt s₀) count s n × (n ≤ count) × (length s ≡ length s₀)
 
 abbrev μ-loop : tie.MeasureT-loop
 μ-loop s₀ count n₀ s n = n
 
 loop-holds : tie.Need-loop-holds Inv-loop μ-loop
-loop-holds c = (marking-start _ _, omega arith, refl)
+loop-holds c = (spread-start _ _, omega arith, refl)
 
 look-requires : tie.Need-look-requires Inv-loop μ-loop
 look-requires c κs =
@@ -23,7 +25,7 @@ look-requires c κs =
       omega (arith, start .pre .0, loop .loop .inv),
       (
         loop .loop .inv .1,
-        down-children (start .pre .1) (loop .loop .inv .0 .kept) (c .before .loop-test .taken) (loop .loop .inv .1) (omega (arith, start .pre .0, loop .loop .inv .2)),
+        children-within (start .pre .1) (loop .loop .inv .0 .kept) (c .before .loop-test .taken) (loop .loop .inv .1) (omega (arith, start .pre .0, loop .loop .inv .2)),
       ),
     )
 
@@ -45,7 +47,7 @@ returns : tie.Need-returns Inv-loop μ-loop
 returns c =
     let start = c .before .before .before in
     let done : c .before .loop .n ≡ 0 = omega arith in
-    marking-end _ _ _ (start .pre .1) (rw done at (c .before .loop .inv .0))
+    spread-end _ _ _ (start .pre .1) (rw done at (c .before .loop .inv .0))
 
 pub spread-spec : {M : Type 1} → statement M
 spread-spec =

@@ -1,5 +1,6 @@
 use mathlib.Core.Path.{_≡_}
-use Rattle.diagram.specs.Mask.{Doubling, doubling-start, doubling-on}
+use Rattle.diagram.specs.Mask.{DoubledLoop}
+use Rattle.diagram.specs.MaskLaws.{doubled-start, doubled-on}
 use Prim.Native.Nat.{_≤_, _-_}
 use borrow.Author.Needs.{needs}
 use native.Mathlib.Omega.{arith}
@@ -7,16 +8,16 @@ use Rattle.diagram.proofs.mask.doubled.Statement.{statement}
 use Rattle.diagram.proofs.mask.doubled.Tie as tie
 
 abbrev Inv-loop : tie.InvT-loop
-Inv-loop n i₀ r₀ i r = (i ≤ n) × Doubling i r
+Inv-loop n i₀ r₀ i r = (i ≤ n) × DoubledLoop i r
 
 abbrev μ-loop : tie.MeasureT-loop
 μ-loop n i₀ r₀ i r = n - i
 
 loop-holds : tie.Need-loop-holds Inv-loop μ-loop
-loop-holds c = (omega arith, doubling-start)
+loop-holds c = (omega arith, doubled-start)
 
 loop-again : tie.Need-loop-again Inv-loop μ-loop
-loop-again c = search (needs, doubling-on)
+loop-again c = search (needs, doubled-on)
 
 returns : tie.Need-returns Inv-loop μ-loop
 returns c =

@@ -1,4 +1,4 @@
-use Rattle.diagram.specs.Mask.{factor-none, factor-is}
+use Rattle.diagram.specs.MaskLaws.{factor-none, factor-is}
 use borrow.Author.Needs.{needs}
 use Rattle.diagram.proofs.mask.factor.Statement.{statement}
 use Rattle.diagram.proofs.mask.factor.Tie as tie

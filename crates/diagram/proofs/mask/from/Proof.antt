@@ -1,4 +1,4 @@
-use Rattle.diagram.specs.Mask.{from-is}
+use Rattle.diagram.specs.MaskLaws.{from-is}
 use borrow.Author.Needs.{needs}
 use Rattle.diagram.proofs.mask.from.Statement.{statement}
 use Rattle.diagram.proofs.mask.from.Tie as tie

@@ -1,4 +1,4 @@
-use Rattle.diagram.specs.Mask.{bits-at}
+use Rattle.diagram.specs.MaskLaws.{bits-at}
 use mathlib.Core.Path.{sym}
 use borrow.Author.Needs.{needs}
 use Rattle.diagram.proofs.mask.has.Statement.{statement}

@@ -1,4 +1,4 @@
-use Rattle.diagram.specs.Mask.{without-some, without-is, without-none}
+use Rattle.diagram.specs.MaskLaws.{without-some, without-is, without-none}
 use borrow.Author.Needs.{needs}
 use Rattle.diagram.proofs.mask.without.Statement.{statement}
 use Rattle.diagram.proofs.mask.without.Tie as tie

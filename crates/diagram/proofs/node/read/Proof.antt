@@ -1,4 +1,5 @@
-use Rattle.diagram.specs.Node.{decode, read-by}
+use Rattle.diagram.specs.Node.{decode}
+use Rattle.diagram.specs.NodeLaws.{read-by}
 use borrow.Author.Needs.{needs}
 use Rattle.diagram.proofs.node.read.Statement.{statement}
 use Rattle.diagram.proofs.node.read.Tie as tie

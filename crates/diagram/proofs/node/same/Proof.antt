@@ -1,4 +1,4 @@
-use Rattle.diagram.specs.Node.{indices-differ, lows-differ, highs-tell}
+use Rattle.diagram.specs.NodeLaws.{indices-differ, lows-differ, highs-decide}
 use borrow.Author.Needs.{needs}
 use Rattle.diagram.proofs.node.same.Statement.{statement}
 use Rattle.diagram.proofs.node.same.Tie as tie
@@ -7,7 +7,7 @@ returns : tie.Need-returns
 returns c = search (needs, indices-differ)
 
 returns-2 : tie.Need-returns-2
-returns-2 c = search (needs, highs-tell)
+returns-2 c = search (needs, highs-decide)
 
 returns-3 : tie.Need-returns-3
 returns-3 c = search (needs, lows-differ)

@@ -1,4 +1,4 @@
-use Rattle.diagram.specs.Node.{edge-eq, weights-differ, nodes-differ}
+use Rattle.diagram.specs.NodeLaws.{edge-eq, weights-differ, nodes-differ}
 use borrow.Author.Needs.{needs}
 use Rattle.diagram.proofs.node.same_edge.Statement.{statement}
 use Rattle.diagram.proofs.node.same_edge.Tie as tie

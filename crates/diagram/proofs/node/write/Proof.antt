@@ -1,4 +1,4 @@
-use Rattle.diagram.specs.Node.{written-by}
+use Rattle.diagram.specs.NodeLaws.{written-by}
 use borrow.Author.Needs.{needs}
 use Rattle.diagram.proofs.node.write.Statement.{statement}
 use Rattle.diagram.proofs.node.write.Tie as tie

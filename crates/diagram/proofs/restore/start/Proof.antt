@@ -1,13 +1,14 @@
-use Rattle.diagram.specs.Restore.{built, bare, started}
+use Rattle.diagram.specs.Restore.{built, small}
+use Rattle.diagram.specs.RestoreLaws.{start-ensures}
 use borrow.Author.Needs.{needs}
 use Rattle.diagram.proofs.restore.start.Statement.{statement}
 use Rattle.diagram.proofs.restore.start.Tie as tie
 
 returns : tie.Need-returns
-returns c = search (needs, started, built)
+returns c = search (needs, start-ensures, built)
 
 returns-2 : tie.Need-returns-2
-returns-2 c = search (needs, started, bare)
+returns-2 c = search (needs, start-ensures, small)
 
 pub start-spec : {M : Type 1} → statement M
 start-spec =

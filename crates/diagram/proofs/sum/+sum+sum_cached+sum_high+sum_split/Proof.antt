@@ -1,12 +1,14 @@
 use borrow.Author.Needs.{needs}
 use native.Mathlib.Omega.{arith}
 use Prim.Native.Nat.{_+_, _*_}
-use Rattle.diagram.specs.Cache.{looked-up}
-use Rattle.diagram.specs.Operation.{works-fit, works-hit, works-kept}
-use Rattle.diagram.specs.Halving.{rank, inside, fixable-left, fixable-right, part-ready, part-less}
-use Rattle.diagram.specs.Adding.{sum-left, sum-right, sum-one, bare-rank, bare-ready}
-use Rattle.diagram.specs.Adding.{bare-apart, sum-times, sum-narrow, sum-asked, sum-known, sum-some}
-use Rattle.diagram.specs.Adding.{sum-low-failed, sum-halfway, sum-rank, sum-low-works, sum-high-failed, sum-joinable, sum-high-works}
+use Rattle.diagram.specs.CacheLaws.{lookup-is}
+use Rattle.diagram.specs.OperationLaws.{cached-fits, cached-hit, cached-kept}
+use Rattle.diagram.specs.HalvesLaws.{inside, fixable-left, fixable-right, part-ready, part-less}
+use Rattle.diagram.specs.Operation.{edgesMeasure}
+use Rattle.diagram.specs.SumLaws.{sum-left, sum-right, sum-one, sum-reduced-measure, sum-reduced-ready}
+use Rattle.diagram.specs.SumLaws.{sum-reduced, sum-times, sum-key-fits, sum-key-step, sum-known, sum-some}
+use Rattle.diagram.specs.SumLaws.{sum-low-full, sum-high-ready, sum-measure, sum-low-refines, sum-high-full}
+use Rattle.diagram.specs.SumLaws.{sum-joinable, sum-high-refines}
 use Prim.Native.Nat.{ℕ, _<_}
 use borrow.Fn.Kinds.{In}
 use borrow.Fn.PlainCycle.{Measures, is, falls, and}
@@ -35,16 +37,16 @@ use Rattle.diagram.proofs.sum.+sum+sum_cached+sum_high+sum_split.{state
 use Rattle.diagram.proofs.sum.+sum+sum_cached+sum_high+sum_split.Tie.{close}
 
 abbrev μ-sum : Measures 2 sum-kinds.ps ℕ
-μ-sum κs a = 4 * rank (a .0 .now) (a .1 .1 .0) (a .1 .1 .1 .0) (a .1 .1 .1 .1 .0) + 3
+μ-sum κs a = 4 * edgesMeasure (a .0 .now) (a .1 .1 .0) (a .1 .1 .1 .0) (a .1 .1 .1 .1 .0) + 3
 
 abbrev μ-sum-cached : Measures 2 sum-cached-kinds.ps ℕ
-μ-sum-cached κs a = 4 * rank (a .0 .now) (a .1 .1 .0) (a .1 .1 .1 .0) (a .1 .1 .1 .1 .0) + 2
+μ-sum-cached κs a = 4 * edgesMeasure (a .0 .now) (a .1 .1 .0) (a .1 .1 .1 .0) (a .1 .1 .1 .1 .0) + 2
 
 abbrev μ-sum-high : Measures 2 sum-high-kinds.ps ℕ
-μ-sum-high κs a = 4 * rank (a .0 .now) (a .1 .1 .0) (a .1 .1 .1 .0) (a .1 .1 .1 .1 .0)
+μ-sum-high κs a = 4 * edgesMeasure (a .0 .now) (a .1 .1 .0) (a .1 .1 .1 .0) (a .1 .1 .1 .1 .0)
 
 abbrev μ-sum-split : Measures 2 sum-split-kinds.ps ℕ
-μ-sum-split κs a = 4 * rank (a .0 .now) (a .1 .1 .0) (a .1 .1 .1 .0) (a .1 .1 .1 .1 .0) + 1
+μ-sum-split κs a = 4 * edgesMeasure (a .0 .now) (a .1 .1 .0) (a .1 .1 .1 .0) (a .1 .1 .1 .1 .0) + 1
 
 abbrev sum-at : ℕ → In 2 sum-kinds.ps
 sum-at t = and 2 sum-kinds.ps (is 2 sum-kinds.ps μ-sum t) sum.Pre
@@ -89,10 +91,12 @@ sum-claims t = (
 )
 
 abbrev sum-cached-claims : ℕ → sum-cached-lts.Claims
-sum-cached-claims t = (lookup-reads.Asked, lookup-reads.Learnt, sum-split-below t, sum-split.Post, keep-reads.Asked, keep-reads.Learnt)
+sum-cached-claims t =
+    (lookup-reads.Asked, lookup-reads.Learnt, sum-split-below t, sum-split.Post, keep-reads.Asked, keep-reads.Learnt)
 
 abbrev sum-high-claims : ℕ → sum-high-lts.Claims
-sum-high-claims t = (cofactor-reads.Asked, cofactor-reads.Learnt, sum-below t, sum.Post, join-reads.Asked, join-reads.Learnt)
+sum-high-claims t =
+    (cofactor-reads.Asked, cofactor-reads.Learnt, sum-below t, sum.Post, join-reads.Asked, join-reads.Learnt)
 
 abbrev sum-split-claims : ℕ → sum-split-lts.Claims
 sum-split-claims t =
@@ -124,13 +128,13 @@ sum-sum-cached-requires t c κs =
     let g = start .pre .1 in
     let a = tests .before .before .if1 .left in
     let b = tests .before .if2 .left in (
-      omega (arith, bare-rank g a b (tests .if3 .left) (mul .before .inverse .ensures) (mul .mul .ensures), start .pre .0),
+      omega (arith, sum-reduced-measure g a b (tests .if3 .left) (mul .before .inverse .ensures) (mul .mul .ensures), start .pre .0),
       search
-          (needs, bare-ready, bare-apart),
+          (needs, sum-reduced-ready, sum-reduced),
     )
 
 sum-times-requires : (t : ℕ) → sum-lts.Need-times-requires (sum-claims t) (sum-at t) sum.Post
-sum-times-requires t c κs = search (needs, works-fit)
+sum-times-requires t c κs = search (needs, cached-fits)
 
 sum-same-length : (t : ℕ) → sum-lts.Need-same-length (sum-claims t) (sum-at t) sum.Post
 sum-same-length t c = search needs
@@ -149,34 +153,41 @@ sum-returns-4 t c =
     (cached .sum-cached .last .1 .0) (cached .sum-cached .last .0) (cached .sum-cached .result) (c .times .result) (cached .sum-cached .ensures)
     (c .times .ensures)
 
-sum-cached-lookup-requires : (t : ℕ) → sum-cached-lts.Need-lookup-requires (sum-cached-claims t) (sum-cached-at t) sum-cached.Post
-sum-cached-lookup-requires t c κs = search (needs, sum-narrow)
+sum-cached-lookup-requires : (t : ℕ)
+    → sum-cached-lts.Need-lookup-requires (sum-cached-claims t) (sum-cached-at t) sum-cached.Post
+sum-cached-lookup-requires t c κs = search (needs, sum-key-fits)
 
-sum-cached-enum-known-e : (t : ℕ) → sum-cached-lts.Need-enum-known-e (sum-cached-claims t) (sum-cached-at t) sum-cached.Post
+sum-cached-enum-known-e : (t : ℕ)
+    → sum-cached-lts.Need-enum-known-e (sum-cached-claims t) (sum-cached-at t) sum-cached.Post
 sum-cached-enum-known-e t c = search needs
 
-sum-cached-same-length : (t : ℕ) → sum-cached-lts.Need-same-length (sum-cached-claims t) (sum-cached-at t) sum-cached.Post
+sum-cached-same-length : (t : ℕ)
+    → sum-cached-lts.Need-same-length (sum-cached-claims t) (sum-cached-at t) sum-cached.Post
 sum-cached-same-length t c = search needs
 
 sum-cached-returns : (t : ℕ) → sum-cached-lts.Need-returns (sum-cached-claims t) (sum-cached-at t) sum-cached.Post
 sum-cached-returns t c =
     let lookup = c .before .before .before in
     let start = lookup .before .before .before .before in
-    works-hit (start .pre .1 .0) (sum-asked (start .pre .1 .0) (start .pre .1 .1)) (looked-up _ (lookup .lookup .ensures) (c .before .e .given .1))
+    cached-hit (start .pre .1 .0) (sum-key-step (start .pre .1 .0) (start .pre .1 .1)) (lookup-is _ (lookup .lookup .ensures) (c .before .e .given .1))
 
 sum-cached-enum-told : (t : ℕ) → sum-cached-lts.Need-enum-told (sum-cached-claims t) (sum-cached-at t) sum-cached.Post
 sum-cached-enum-told t c = search needs
 
-sum-cached-sum-split-requires : (t : ℕ) → sum-cached-lts.Need-sum-split-requires (sum-cached-claims t) (sum-cached-at t) sum-cached.Post
+sum-cached-sum-split-requires : (t : ℕ)
+    → sum-cached-lts.Need-sum-split-requires (sum-cached-claims t) (sum-cached-at t) sum-cached.Post
 sum-cached-sum-split-requires t c κs = search needs
 
-sum-cached-keep-requires : (t : ℕ) → sum-cached-lts.Need-keep-requires (sum-cached-claims t) (sum-cached-at t) sum-cached.Post
-sum-cached-keep-requires t c κs = search (needs, sum-narrow, works-fit)
+sum-cached-keep-requires : (t : ℕ)
+    → sum-cached-lts.Need-keep-requires (sum-cached-claims t) (sum-cached-at t) sum-cached.Post
+sum-cached-keep-requires t c κs = search (needs, sum-key-fits, cached-fits)
 
-sum-cached-same-length-2 : (t : ℕ) → sum-cached-lts.Need-same-length-2 (sum-cached-claims t) (sum-cached-at t) sum-cached.Post
+sum-cached-same-length-2 : (t : ℕ)
+    → sum-cached-lts.Need-same-length-2 (sum-cached-claims t) (sum-cached-at t) sum-cached.Post
 sum-cached-same-length-2 t c = search needs
 
-sum-cached-same-length-3 : (t : ℕ) → sum-cached-lts.Need-same-length-3 (sum-cached-claims t) (sum-cached-at t) sum-cached.Post
+sum-cached-same-length-3 : (t : ℕ)
+    → sum-cached-lts.Need-same-length-3 (sum-cached-claims t) (sum-cached-at t) sum-cached.Post
 sum-cached-same-length-3 t c = search needs
 
 sum-cached-returns-2 : (t : ℕ) → sum-cached-lts.Need-returns-2 (sum-cached-claims t) (sum-cached-at t) sum-cached.Post
@@ -184,14 +195,16 @@ sum-cached-returns-2 t c =
     let keep = c .before .before in
     let split = keep .before .before .before .before .before .before in
     let start = split .before .before .before .before .before .before .before .before .before in
-    works-kept (split .sum-split .last .1 .0) (keep .keep .last .0) (split .sum-split .last .0) _ _ (split .sum-split .result) (start .pre .1 .0)
-    (sum-asked (start .pre .1 .0) (start .pre .1 .1)) (start .pre .1 .0 .left .within) (start .pre .1 .0 .right .within)
+    cached-kept (split .sum-split .last .1 .0) (keep .keep .last .0) (split .sum-split .last .0) _ _ (split .sum-split .result) (start .pre .1 .0)
+    (sum-key-step (start .pre .1 .0) (start .pre .1 .1)) (start .pre .1 .0 .left .within) (start .pre .1 .0 .right .within)
     (sum-known (start .pre .1 .0) (start .pre .1 .1)) (split .sum-split .ensures) (keep .keep .ensures)
 
-sum-high-cofactor-requires : (t : ℕ) → sum-high-lts.Need-cofactor-requires (sum-high-claims t) (sum-high-at t) sum-high.Post
+sum-high-cofactor-requires : (t : ℕ)
+    → sum-high-lts.Need-cofactor-requires (sum-high-claims t) (sum-high-at t) sum-high.Post
 sum-high-cofactor-requires t c κs = search (needs, fixable-left)
 
-sum-high-cofactor-requires-2 : (t : ℕ) → sum-high-lts.Need-cofactor-requires-2 (sum-high-claims t) (sum-high-at t) sum-high.Post
+sum-high-cofactor-requires-2 : (t : ℕ)
+    → sum-high-lts.Need-cofactor-requires-2 (sum-high-claims t) (sum-high-at t) sum-high.Post
 sum-high-cofactor-requires-2 t c κs = search (needs, fixable-right)
 
 sum-high-sum-requires : (t : ℕ) → sum-high-lts.Need-sum-requires (sum-high-claims t) (sum-high-at t) sum-high.Post
@@ -217,7 +230,7 @@ sum-high-same-length-2 : (t : ℕ) → sum-high-lts.Need-same-length-2 (sum-high
 sum-high-same-length-2 t c = search needs
 
 sum-high-returns : (t : ℕ) → sum-high-lts.Need-returns (sum-high-claims t) (sum-high-at t) sum-high.Post
-sum-high-returns t c = search (needs, sum-high-failed)
+sum-high-returns t c = search (needs, sum-high-full)
 
 sum-high-join-requires : (t : ℕ) → sum-high-lts.Need-join-requires (sum-high-claims t) (sum-high-at t) sum-high.Post
 sum-high-join-requires t c κs =
@@ -242,16 +255,19 @@ sum-high-returns-2 t c =
     let second = high .before .before .before in
     let first = second .before .before in
     let start = first .before .before .before .before in
-    sum-high-works (start .pre .1) (first .cofactor .ensures) (second .cofactor2 .ensures) (high .sum .last .1 .0) (high .sum .last .0)
+    sum-high-refines (start .pre .1) (first .cofactor .ensures) (second .cofactor2 .ensures) (high .sum .last .1 .0) (high .sum .last .0)
     (high .sum .result) (high .sum .ensures) (join .before .before .before .h .given .1) (join .join .last .0) (join .join .result) (join .join .ensures)
 
-sum-split-lowest-requires : (t : ℕ) → sum-split-lts.Need-lowest-requires (sum-split-claims t) (sum-split-at t) sum-split.Post
+sum-split-lowest-requires : (t : ℕ)
+    → sum-split-lts.Need-lowest-requires (sum-split-claims t) (sum-split-at t) sum-split.Post
 sum-split-lowest-requires t c κs = search needs
 
-sum-split-cofactor-requires : (t : ℕ) → sum-split-lts.Need-cofactor-requires (sum-split-claims t) (sum-split-at t) sum-split.Post
+sum-split-cofactor-requires : (t : ℕ)
+    → sum-split-lts.Need-cofactor-requires (sum-split-claims t) (sum-split-at t) sum-split.Post
 sum-split-cofactor-requires t c κs = search (needs, fixable-left, inside, sum-some)
 
-sum-split-cofactor-requires-2 : (t : ℕ) → sum-split-lts.Need-cofactor-requires-2 (sum-split-claims t) (sum-split-at t) sum-split.Post
+sum-split-cofactor-requires-2 : (t : ℕ)
+    → sum-split-lts.Need-cofactor-requires-2 (sum-split-claims t) (sum-split-at t) sum-split.Post
 sum-split-cofactor-requires-2 t c κs = search (needs, fixable-right, inside, sum-some)
 
 sum-split-sum-requires : (t : ℕ) → sum-split-lts.Need-sum-requires (sum-split-claims t) (sum-split-at t) sum-split.Post
@@ -273,13 +289,15 @@ sum-split-enum-told t c = search needs
 sum-split-same-length : (t : ℕ) → sum-split-lts.Need-same-length (sum-split-claims t) (sum-split-at t) sum-split.Post
 sum-split-same-length t c = search needs
 
-sum-split-same-length-2 : (t : ℕ) → sum-split-lts.Need-same-length-2 (sum-split-claims t) (sum-split-at t) sum-split.Post
+sum-split-same-length-2 : (t : ℕ)
+    → sum-split-lts.Need-same-length-2 (sum-split-claims t) (sum-split-at t) sum-split.Post
 sum-split-same-length-2 t c = search needs
 
 sum-split-returns : (t : ℕ) → sum-split-lts.Need-returns (sum-split-claims t) (sum-split-at t) sum-split.Post
-sum-split-returns t c = search (needs, sum-low-failed)
+sum-split-returns t c = search (needs, sum-low-full)
 
-sum-split-sum-high-requires : (t : ℕ) → sum-split-lts.Need-sum-high-requires (sum-split-claims t) (sum-split-at t) sum-split.Post
+sum-split-sum-high-requires : (t : ℕ)
+    → sum-split-lts.Need-sum-high-requires (sum-split-claims t) (sum-split-at t) sum-split.Post
 sum-split-sum-high-requires t c κs =
     let low = c .before .before .before .before .before .before .before .before .before in
     let second = low .before .before .before in
@@ -287,17 +305,19 @@ sum-split-sum-high-requires t c κs =
     let lowest = first .before .before in
     let start = lowest .before .before .before .before in
     let l = c .before .before .before .l .given .1 in
-    let same = sum-rank (start .pre .1 .0) (start .pre .1 .1) (lowest .lowest .ensures .0) (first .cofactor .ensures) (second .cofactor2 .ensures)
+    let same = sum-measure (start .pre .1 .0) (start .pre .1 .1) (lowest .lowest .ensures .0) (first .cofactor .ensures) (second .cofactor2 .ensures)
     (low .sum .last .1 .0) (low .sum .last .0) (low .sum .result) (low .sum .ensures) l in (
       omega (arith, same, start .pre .0),
-      sum-halfway (start .pre .1 .0) (start .pre .1 .1) (lowest .lowest .ensures .0) (first .cofactor .ensures) (second .cofactor2 .ensures)
+      sum-high-ready (start .pre .1 .0) (start .pre .1 .1) (lowest .lowest .ensures .0) (first .cofactor .ensures) (second .cofactor2 .ensures)
           (low .sum .last .1 .0) (low .sum .last .0) (low .sum .result) (low .sum .ensures) l,
     )
 
-sum-split-same-length-3 : (t : ℕ) → sum-split-lts.Need-same-length-3 (sum-split-claims t) (sum-split-at t) sum-split.Post
+sum-split-same-length-3 : (t : ℕ)
+    → sum-split-lts.Need-same-length-3 (sum-split-claims t) (sum-split-at t) sum-split.Post
 sum-split-same-length-3 t c = search needs
 
-sum-split-same-length-4 : (t : ℕ) → sum-split-lts.Need-same-length-4 (sum-split-claims t) (sum-split-at t) sum-split.Post
+sum-split-same-length-4 : (t : ℕ)
+    → sum-split-lts.Need-same-length-4 (sum-split-claims t) (sum-split-at t) sum-split.Post
 sum-split-same-length-4 t c = search needs
 
 sum-split-returns-2 : (t : ℕ) → sum-split-lts.Need-returns-2 (sum-split-claims t) (sum-split-at t) sum-split.Post
@@ -308,7 +328,7 @@ sum-split-returns-2 t c =
     let first = second .before .before in
     let lowest = first .before .before in
     let start = lowest .before .before .before .before in
-    sum-low-works (start .pre .1 .0) (start .pre .1 .1) (lowest .lowest .ensures .0) (first .cofactor .ensures) (second .cofactor2 .ensures)
+    sum-low-refines (start .pre .1 .0) (start .pre .1 .1) (lowest .lowest .ensures .0) (first .cofactor .ensures) (second .cofactor2 .ensures)
     (low .sum .last .1 .0) (low .sum .last .0) (low .sum .result) (low .sum .ensures)
     (high .before .before .before .before .l .given .1) (high .sum-high .last .1 .0) (high .sum-high .last .0) (high .sum-high .result)
     (high .sum-high .ensures)

@@ -1,11 +1,12 @@
 -- The walk along x's chain: numbers fall along it, and no node above the place reached is x.
-use Rattle.diagram.specs.Table.{Walking, walk-start, walk-on, walk-less, walk-found, walk-end}
+use Rattle.diagram.specs.Table.{FindLoop}
+use Rattle.diagram.specs.TableLaws.{walk-start, walk-on, walk-less, walk-found, walk-end}
 use borrow.Author.Needs.{needs}
 use Rattle.diagram.proofs.table.find.Statement.{statement}
 use Rattle.diagram.proofs.table.find.Tie as tie
 
 abbrev Inv-loop : tie.InvT-loop
-Inv-loop s count buckets x b r₀ r = Walking s count buckets x r
+Inv-loop s count buckets x b r₀ r = FindLoop s count buckets x r
 
 abbrev μ-loop : tie.MeasureT-loop
 μ-loop s count buckets x b r₀ r = r

@@ -1,4 +1,5 @@
-use Rattle.diagram.specs.Table.{hash, mix, hash-lt}
+use Rattle.diagram.specs.Table.{hash, mix}
+use Rattle.diagram.specs.TableLaws.{hash-lt}
 use borrow.Author.Needs.{needs}
 use Rattle.diagram.proofs.table.hash.Statement.{statement}
 use Rattle.diagram.proofs.table.hash.Tie as tie

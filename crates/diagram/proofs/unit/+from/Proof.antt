@@ -1,7 +1,7 @@
 -- The qubits after q first; then q's three joins.
 use Prim.Native.Nat.{_-_, ℕ, _<_}
 use borrow.Author.Needs.{needs}
-use Rattle.diagram.specs.Unit.{unit-leaf, unit-full, unit-ready, unit-does}
+use Rattle.diagram.specs.UnitLaws.{unit-leaf, unit-full, unit-ready, unit-refines}
 use borrow.Fn.Kinds.{In}
 use borrow.Fn.PlainCycle.{Measures, is, falls, and}
 use Rattle.diagram.proofs.unit.from.Reads as from
@@ -51,7 +51,7 @@ from-same-length-2 : (t : ℕ) → from-lts.Need-same-length-2 (from-claims t) (
 from-same-length-2 t c = search needs
 
 from-returns-3 : (t : ℕ) → from-lts.Need-returns-3 (from-claims t) (from-at t) from.Post
-from-returns-3 t c = search (needs, unit-does)
+from-returns-3 t c = search (needs, unit-refines)
 
 pub +from-spec : {M : Type 1} → statement M
 +from-spec = close μ-from λ t. from-lts.spec (from-claims t) (from-at t)

@@ -1,5 +1,6 @@
 -- The first join builds the low part, the second the high part, and `onto-joins` says that the third joins them.
-use Rattle.diagram.specs.Unit.{first-joinable, first-full, first-sound, second-joinable, second-full, onto-joins}
+use Rattle.diagram.specs.UnitLaws.{first-joinable, first-full, first-sound, second-joinable, second-full}
+use Rattle.diagram.specs.UnitLaws.{onto-joins}
 use borrow.Author.Needs.{needs}
 use Rattle.diagram.proofs.unit.onto.Statement.{statement}
 use Rattle.diagram.proofs.unit.onto.Tie as tie

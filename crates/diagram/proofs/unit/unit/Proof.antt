@@ -1,4 +1,4 @@
-use Rattle.diagram.specs.Unit.{unit-whole}
+use Rattle.diagram.specs.UnitLaws.{unit-whole}
 use borrow.Author.Needs.{needs}
 use Rattle.diagram.proofs.unit.unit.Statement.{statement}
 use Rattle.diagram.proofs.unit.unit.Tie as tie

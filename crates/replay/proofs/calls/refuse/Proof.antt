@@ -1,10 +1,10 @@
-use Rattle.diagram.specs.Standing.{standing-restored}
+use Rattle.diagram.specs.InvariantLaws.{invariant-rollback}
 use borrow.Author.Needs.{needs}
 use Rattle.replay.proofs.calls.refuse.Statement.{statement}
 use Rattle.replay.proofs.calls.refuse.Tie as tie
 
 returns : tie.Need-returns
-returns c = search (needs, standing-restored)
+returns c = search (needs, invariant-rollback)
 
 pub refuse-spec : {M : Type 1} → statement M
 refuse-spec =

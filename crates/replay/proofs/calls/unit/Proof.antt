@@ -1,17 +1,18 @@
-use Rattle.diagram.specs.Standing.{does-left, standing-does}
+use Rattle.diagram.specs.InvariantLaws.{refines-rollback, invariant-refines}
 use borrow.Author.Needs.{needs}
 use Rattle.replay.proofs.calls.unit.Statement.{statement}
 use Rattle.replay.proofs.calls.unit.Tie as tie
 
 refuse-requires : tie.Need-refuse-requires
-refuse-requires c κs = search (needs, does-left)
+refuse-requires c κs = search (needs, refines-rollback)
 
 returns-2 : tie.Need-returns-2
-returns-2 c = search (needs, standing-does)
+returns-2 c = search (needs, invariant-refines)
 
 pub unit-spec : {M : Type 1} → statement M
 unit-spec =
     tie.close
     (tie.spec
-    (λ c κs. search needs) (λ c. search needs) (λ c. search needs) refuse-requires (λ c. search needs) (λ c. search needs)
+    (λ c κs. search needs) (λ c. search needs) (λ c. search needs) refuse-requires (λ c. search needs)
+    (λ c. search needs)
     (λ c. search needs) (λ c κs. search needs) (λ c. search needs) returns-2)

@@ -2,13 +2,14 @@ use Prim.Native.Nat.{_-_, _≤_}
 use mathlib.Core.Path.{_≡_, refl, _∙_}
 use native.Mathlib.Omega.{arith}
 use lib.ListN.{length}
-use Rattle.diagram.specs.Standing.{Standing}
+use Rattle.diagram.specs.Invariant.{Invariant}
 use Rattle.replay.proofs.circuit.chain.Statement.{statement}
 use Rattle.replay.proofs.circuit.chain.Tie as tie
 
 abbrev Inv-loop : tie.InvT-loop
 Inv-loop store₀ cache₀ r₀ q₀ store cache r q =
-    Standing cache store (r .state) (r .registers .all) × (q ≤ 7) × (length store ≡ length store₀) × (length cache ≡ length cache₀)
+    Invariant cache store (r .state) (r .registers .all) × (q ≤ 7) × (length store ≡ length store₀)
+    × (length cache ≡ length cache₀)
 
 abbrev μ-loop : tie.MeasureT-loop
 μ-loop store₀ cache₀ r₀ q₀ store cache r q = 7 - q

@@ -3,7 +3,7 @@ use mathlib.Core.Path.{sym}
 use native.Mathlib.Omega.{arith}
 use lib.ListN.{length-set}
 use lib.Seq.{length-take-le}
-use Rattle.session.specs.AnswerLaws.{replied}
+use Rattle.session.specs.AnswerLaws.{reply-ensures}
 use Rattle.session.proofs.answer.reply.Statement.{statement}
 use Rattle.session.proofs.answer.reply.Tie as tie
 
@@ -14,7 +14,7 @@ slice-aggregate-resume : tie.Need-slice-aggregate-resume
 slice-aggregate-resume c = sym (length-take-le _ _ (simp length-set (omega arith)))
 
 returns : tie.Need-returns
-returns c = search (needs, replied)
+returns c = search (needs, reply-ensures)
 
 pub reply-spec : {M : Type 1} → statement M
 reply-spec =

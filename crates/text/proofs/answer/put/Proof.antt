@@ -1,8 +1,7 @@
 -- Each arm prints what the definition prints in that case.
 use borrow.Author.Needs.{needs}
 use native.Mathlib.Omega.{arith}
-use Rattle.text.specs.Answers.{printed, answered}
-use Rattle.text.specs.Print.{ended}
+use Rattle.text.specs.Answer.{printed, answerLine, labelledLine}
 use Rattle.text.proofs.answer.put.Statement.{statement}
 use Rattle.text.proofs.answer.put.Tie as tie
 
@@ -22,29 +21,29 @@ pair-requires-4 c κs =
     (omega arith, (omega arith, rw told at (c .before .before .before .before .before .before .pre .1)))
 
 returns : tie.Need-returns
-unfolding printed answered ended
+unfolding printed answerLine labelledLine
 returns c = rw (c .before .before .before .before .before .before .answer .given .1) (c .before .before .pair .ensures)
 
 returns-2 : tie.Need-returns-2
-unfolding printed answered ended
+unfolding printed answerLine labelledLine
 returns-2 c =
     let number = c .before .before .before in
     rw (number .before .before .before .before .answer2 .given .1, ← number .number-of .ensures .0) (c .before .before .pair2 .ensures)
 
 returns-3 : tie.Need-returns-3
-unfolding printed answered ended
+unfolding printed answerLine labelledLine
 returns-3 c = rw (c .before .before .before .before .before .before .answer3 .given .1) (c .before .before .pair3 .ensures)
 
 returns-4 : tie.Need-returns-4
-unfolding printed answered ended
+unfolding printed answerLine labelledLine
 returns-4 c = rw (c .before .before .before .before .before .enum-told .given .1) (c .before .before .bytes .ensures)
 
 returns-5 : tie.Need-returns-5
-unfolding printed answered ended
+unfolding printed answerLine labelledLine
 returns-5 c = rw (c .before .before .before .before .before .before .answer4 .given .1) (c .before .before .pair4 .ensures)
 
 returns-6 : tie.Need-returns-6
-unfolding printed answered ended
+unfolding printed answerLine labelledLine
 returns-6 c = rw (c .before .before .before .before .before .enum-told2 .given .1) (c .before .before .bytes2 .ensures)
 
 pub put-spec : {M : Type 1} → statement M

@@ -1,5 +1,6 @@
 use borrow.Author.Needs.{needs}
-use Rattle.text.specs.Calls.{callOf, byCount}
+use Rattle.text.specs.Call.{callOf}
+use Rattle.text.specs.Args.{byCount}
 use Rattle.text.proofs.Arity.{not-three}
 use Rattle.text.proofs.call.add.Statement.{statement}
 use Rattle.text.proofs.call.add.Tie as tie
@@ -12,7 +13,7 @@ returns-2 : tie.Need-returns-2
 unfolding callOf byCount
 returns-2 c =
     let inner = c .before .before in
-    rw (inner .before .before .args2 .given .1, c .registered3 .ensures, c .before .registered2 .ensures, inner .registered .ensures)
+    rw (inner .before .before .args2 .given .1, c .check-register3 .ensures, c .before .check-register2 .ensures, inner .check-register .ensures)
 
 pub add-spec : {M : Type 1} → statement M
 add-spec = tie.close (tie.spec (λ c. search needs) returns (λ c κs. search needs) (λ c κs. search needs) (λ c κs. search needs) returns-2)

@@ -1,5 +1,6 @@
 use borrow.Author.Needs.{needs}
-use Rattle.text.specs.Calls.{callOf, byCount}
+use Rattle.text.specs.Call.{callOf}
+use Rattle.text.specs.Args.{byCount}
 use Rattle.text.proofs.Arity.{not-none}
 use Rattle.text.proofs.call.collect.Statement.{statement}
 use Rattle.text.proofs.call.collect.Tie as tie

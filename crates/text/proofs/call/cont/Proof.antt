@@ -1,5 +1,6 @@
 use borrow.Author.Needs.{needs}
-use Rattle.text.specs.Calls.{callOf, byCount}
+use Rattle.text.specs.Call.{callOf}
+use Rattle.text.specs.Args.{byCount}
 use Rattle.text.proofs.Arity.{not-four}
 use Rattle.text.proofs.call.cont.Statement.{statement}
 use Rattle.text.proofs.call.cont.Tie as tie
@@ -12,8 +13,8 @@ returns-2 : tie.Need-returns-2
 unfolding callOf byCount
 returns-2 c =
     let inner = c .before .before in
-    rw (inner .before .before .before .args2 .given .1, c .registered3 .ensures, c .before .registered2 .ensures, inner .registered .ensures)
-    (rw (inner .before .bounded .ensures))
+    rw (inner .before .before .before .args2 .given .1, c .check-register3 .ensures, c .before .check-register2 .ensures, inner .check-register .ensures)
+    (rw (inner .before .check-range .ensures))
 
 pub cont-spec : {M : Type 1} → statement M
 cont-spec =

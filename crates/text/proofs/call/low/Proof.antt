@@ -1,5 +1,6 @@
 use borrow.Author.Needs.{needs}
-use Rattle.text.specs.Calls.{callOf, byCount}
+use Rattle.text.specs.Call.{callOf}
+use Rattle.text.specs.Args.{byCount}
 use Rattle.text.proofs.Arity.{not-three}
 use Rattle.text.proofs.call.low.Statement.{statement}
 use Rattle.text.proofs.call.low.Tie as tie
@@ -12,7 +13,7 @@ returns-2 : tie.Need-returns-2
 unfolding callOf byCount
 returns-2 c =
     let inner = c .before .before in
-    rw (inner .before .before .args2 .given .1, c .registered2 .ensures, c .before .registered .ensures, inner .bounded .ensures)
+    rw (inner .before .before .args2 .given .1, c .check-register2 .ensures, c .before .check-register .ensures, inner .check-range .ensures)
 
 pub low-spec : {M : Type 1} → statement M
 low-spec = tie.close (tie.spec (λ c. search needs) returns (λ c κs. search needs) (λ c κs. search needs) (λ c κs. search needs) returns-2)

@@ -1,6 +1,6 @@
 -- One function for each word.
 use borrow.Author.Needs.{needs}
-use Rattle.text.specs.Calls.{callOf}
+use Rattle.text.specs.Call.{callOf}
 use Rattle.text.proofs.call.make.Statement.{statement}
 use Rattle.text.proofs.call.make.Tie as tie
 

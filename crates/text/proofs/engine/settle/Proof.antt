@@ -1,16 +1,16 @@
 use borrow.Author.Needs.{needs}
-use Rattle.text.specs.Engine.{settles-full, settles-put, leaves-full}
+use Rattle.text.specs.EngineLaws.{settle-ensures-full, settle-ensures-edge, settle-requires-full}
 use Rattle.text.proofs.engine.settle.Statement.{statement}
 use Rattle.text.proofs.engine.settle.Tie as tie
 
 roll-back-requires : tie.Need-roll-back-requires
-roll-back-requires c κs = search (needs, leaves-full)
+roll-back-requires c κs = search (needs, settle-requires-full)
 
 returns : tie.Need-returns
-returns c = search (needs, settles-full)
+returns c = search (needs, settle-ensures-full)
 
 returns-2 : tie.Need-returns-2
-returns-2 c = search (needs, settles-put)
+returns-2 c = search (needs, settle-ensures-edge)
 
 pub settle-spec : {M : Type 1} → statement M
 settle-spec =

@@ -1,10 +1,10 @@
 use borrow.Author.Needs.{needs}
-use Rattle.text.specs.Engine.{started}
+use Rattle.text.specs.EngineLaws.{engine-start-ensures}
 use Rattle.text.proofs.engine.start.Statement.{statement}
 use Rattle.text.proofs.engine.start.Tie as tie
 
 returns : tie.Need-returns
-returns c = search (needs, started)
+returns c = search (needs, engine-start-ensures)
 
 pub start-spec : {M : Type 1} → statement M
 start-spec =

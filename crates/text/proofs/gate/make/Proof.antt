@@ -1,6 +1,6 @@
 -- The count of qubits decides between the two kinds of gate; any other count is malformed.
 use borrow.Author.Needs.{needs}
-use Rattle.text.specs.Calls.{byCount}
+use Rattle.text.specs.Args.{byCount}
 use Rattle.text.proofs.Arity.{not-one-or-two}
 use Rattle.text.proofs.gate.make.Statement.{statement}
 use Rattle.text.proofs.gate.make.Tie as tie
@@ -13,14 +13,14 @@ unfolding byCount
 returns-2 c =
     let name = c .before .before in
     let arm = name .before .before in
-    rw (arm .before .before .before .d .given .1, arm .qubits .given .1, c .registered .ensures, c .before .on-one .ensures, name .one-qubit .ensures)
+    rw (arm .before .before .before .d .given .1, arm .qubits .given .1, c .check-register .ensures, c .before .one-qubit-call .ensures, name .one-qubit .ensures)
 
 returns-3 : tie.Need-returns-3
 unfolding byCount
 returns-3 c =
     let name = c .before .before in
     let arm = name .before .before in
-    rw (arm .before .before .before .d .given .1, arm .qubits2 .given .1, c .registered2 .ensures, c .before .on-two .ensures, name .two-qubits .ensures)
+    rw (arm .before .before .before .d .given .1, arm .qubits2 .given .1, c .check-register2 .ensures, c .before .two-qubit-call .ensures, name .two-qubits .ensures)
 
 returns-4 : tie.Need-returns-4
 returns-4 c = rw (c .before .before .d .given .1) (not-one-or-two _ _ _ _ (c .match2 .keys3))

@@ -1,6 +1,6 @@
 -- A line of two or three fields is malformed; else the register, the name and the qubits are parts of it.
 use borrow.Author.Needs.{needs}
-use Rattle.text.specs.Line.{gate-none, gate-short, gate-fields}
+use Rattle.text.specs.GateLaws.{gate-none, gate-short, gate-fields}
 use Rattle.text.proofs.gate.read.Statement.{statement}
 use Rattle.text.proofs.gate.read.Tie as tie
 

@@ -1,13 +1,13 @@
 use borrow.Author.Needs.{needs}
-use Rattle.text.specs.Judge.{faulty, good, good-least, good-most}
+use Rattle.text.specs.JudgeLaws.{judge-faulty, checked-good, checked-least, checked-most}
 use Rattle.text.proofs.judge.judge.Statement.{statement}
 use Rattle.text.proofs.judge.judge.Tie as tie
 
 run-requires : tie.Need-run-requires
-run-requires c κs = (search (needs, good), (search (needs, good-least), search (needs, good-most)))
+run-requires c κs = (search (needs, checked-good), (search (needs, checked-least), search (needs, checked-most)))
 
 returns : tie.Need-returns
-returns c = search (needs, faulty)
+returns c = search (needs, judge-faulty)
 
 pub judge-spec : {M : Type 1} → statement M
 judge-spec =

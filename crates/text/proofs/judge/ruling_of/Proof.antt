@@ -1,5 +1,5 @@
 use borrow.Author.Needs.{needs}
-use Rattle.text.specs.Judge.{ruling-as}
+use Rattle.text.specs.JudgeLaws.{ruling-as}
 use Rattle.text.proofs.judge.ruling_of.Statement.{statement}
 use Rattle.text.proofs.judge.ruling_of.Tie as tie
 

@@ -1,10 +1,10 @@
 use borrow.Author.Needs.{needs}
-use Rattle.text.specs.Judge.{first-listed, parting-within, first-refused, second-listed, judges}
+use Rattle.text.specs.JudgeLaws.{first-ahead, parting-within, first-refused, second-ahead, judge-ensures}
 use Rattle.text.proofs.judge.run.Statement.{statement}
 use Rattle.text.proofs.judge.run.Tie as tie
 
 run-requires : tie.Need-run-requires
-run-requires c κs = (search needs, (search (needs, first-listed), (search needs, (search needs, search needs))))
+run-requires c κs = (search needs, (search (needs, first-ahead), (search needs, (search needs, search needs))))
 
 returns : tie.Need-returns
 returns c = search (needs, first-refused)
@@ -18,7 +18,7 @@ second-requires c κs =
     let first = test .before .before .before .before .before in
     let start = first .before .before .before .before .before .before .before in
     let pre = start .before .before .before .before .before .before .pre in
-    (search needs, (second-listed (pre .0) (start .start .ensures) (first .run .ensures) (test .if1 .left), (pre .1 .0, pre .1 .1)))
+    (search needs, (second-ahead (pre .0) (start .start .ensures) (first .run .ensures) (test .if1 .left), (pre .1 .0, pre .1 .1)))
 
 returns-2 : tie.Need-returns-2
 returns-2 c =
@@ -26,7 +26,7 @@ returns-2 c =
     let test = second .before .before .before in
     let first = test .before .before .before .before .before in
     let start = first .before .before .before .before .before .before .before in
-    judges (start .before .before .before .before .before .before .pre .0) (start .start .ensures) (first .run .ensures) (test .if1 .left) (search needs) (search needs) (second .second .ensures)
+    judge-ensures (start .before .before .before .before .before .before .pre .0) (start .start .ensures) (first .run .ensures) (test .if1 .left) (search needs) (search needs) (second .second .ensures)
 
 pub run-spec : {M : Type 1} → statement M
 run-spec =

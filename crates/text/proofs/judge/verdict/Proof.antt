@@ -1,13 +1,13 @@
 use borrow.Author.Needs.{needs}
-use Rattle.text.specs.Judge.{gives-none, gives}
+use Rattle.text.specs.JudgeLaws.{verdict-no-room, verdict-ensures}
 use Rattle.text.proofs.judge.verdict.Statement.{statement}
 use Rattle.text.proofs.judge.verdict.Tie as tie
 
 returns : tie.Need-returns
-returns c = search (needs, gives-none)
+returns c = search (needs, verdict-no-room)
 
 returns-2 : tie.Need-returns-2
-returns-2 c = search (needs, gives)
+returns-2 c = search (needs, verdict-ensures)
 
 pub verdict-spec : {M : Type 1} → statement M
 verdict-spec =

@@ -1,8 +1,7 @@
 -- The first field is `gate`, or else a word before numbers.
 use borrow.Author.Needs.{needs}
 use mathlib.Core.Path.{sym, _∙_}
-use Rattle.text.specs.Line.{line-gate, line-other}
-use Rattle.text.specs.Ranges.{line-read}
+use Rattle.text.specs.LineLaws.{line-gate, line-other, line-read}
 use Rattle.text.proofs.line.read.Statement.{statement}
 use Rattle.text.proofs.line.read.Tie as tie
 

@@ -1,11 +1,11 @@
 use borrow.Author.Needs.{needs}
-use Rattle.text.specs.GateShape.{placed-more}
-use Rattle.text.specs.Stage.{facing-gate, gated}
+use Rattle.text.specs.QubitsLaws.{placed-more}
+use Rattle.text.specs.ListLaws.{line-is-gate, gate-ensures}
 use Rattle.text.proofs.list.gate.Statement.{statement}
 use Rattle.text.proofs.list.gate.Tie as tie
 
 gate-requires : tie.Need-gate-requires
-gate-requires c κs = search (needs, facing-gate)
+gate-requires c κs = search (needs, line-is-gate)
 
 gate-requires-2 : tie.Need-gate-requires-2
 gate-requires-2 c κs = (search needs, (search needs, search (needs, placed-more)))
@@ -15,7 +15,7 @@ returns c =
     let run = c .before .before .before .before .before in
     let read = run .before .before .before in
     let end = read .before .before in
-    gated (end .before .before .before .before .before .before .pre .1 .0 .headed) (end .end .ensures) (c .arrive .ensures) (read .gate .ensures) (run .gate2 .ensures)
+    gate-ensures (end .before .before .before .before .before .before .pre .1 .0 .headed) (end .end .ensures) (c .state-of .ensures) (read .gate .ensures) (run .gate2 .ensures)
 
 pub gate-spec : {M : Type 1} → statement M
 gate-spec =

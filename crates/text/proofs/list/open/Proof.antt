@@ -1,5 +1,5 @@
 use borrow.Author.Needs.{needs}
-use Rattle.text.specs.Stage.{opened}
+use Rattle.text.specs.ListLaws.{open-ensures}
 use Rattle.text.proofs.list.open.Statement.{statement}
 use Rattle.text.proofs.list.open.Tie as tie
 
@@ -7,7 +7,7 @@ returns : tie.Need-returns
 returns c =
     let run = c .before .before .before .before .before in
     let end = run .before .before .before in
-    opened (end .before .before .before .before .before .before .pre .1 .0) (end .end .ensures) (c .arrive .ensures) (run .call .ensures)
+    open-ensures (end .before .before .before .before .before .before .pre .1 .0) (end .end .ensures) (c .state-of .ensures) (run .call .ensures)
 
 pub open-spec : {M : Type 1} → statement M
 open-spec =

@@ -1,13 +1,13 @@
 use borrow.Author.Needs.{needs}
-use Rattle.text.specs.Stage.{opened-coming, list-run}
+use Rattle.text.specs.ListLaws.{gates-ahead, list-ensures}
 use Rattle.text.proofs.list.run.Statement.{statement}
 use Rattle.text.proofs.list.run.Tie as tie
 
 gates-requires : tie.Need-gates-requires
-gates-requires c κs = (search needs, (search (needs, opened-coming), (search needs, search needs)))
+gates-requires c κs = (search needs, (search (needs, gates-ahead), (search needs, search needs)))
 
 returns : tie.Need-returns
-returns c = search (needs, list-run)
+returns c = search (needs, list-ensures)
 
 pub run-spec : {M : Type 1} → statement M
 run-spec =

@@ -1,14 +1,14 @@
 use borrow.Author.Needs.{needs}
-use Rattle.text.specs.Gates.{choose}
+use Rattle.text.specs.Names.{chooseName}
 use Rattle.text.proofs.names.choose.Statement.{statement}
 use Rattle.text.proofs.names.choose.Tie as tie
 
 returns : tie.Need-returns
-unfolding choose
+unfolding chooseName
 returns c = rw (← c .before .same .ensures, c .if1 .taken)
 
 returns-2 : tie.Need-returns-2
-unfolding choose
+unfolding chooseName
 returns-2 c = rw (← c .before .same .ensures, c .if1 .left)
 
 pub choose-spec : {M : Type 1} → statement M

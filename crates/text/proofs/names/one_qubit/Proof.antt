@@ -1,6 +1,6 @@
 -- The eight choices, from the outermost in.
 use borrow.Author.Needs.{needs}
-use Rattle.text.specs.Gates.{oneQubit}
+use Rattle.text.specs.Names.{oneQubit}
 use Rattle.text.proofs.names.one_qubit.Statement.{statement}
 use Rattle.text.proofs.names.one_qubit.Tie as tie
 

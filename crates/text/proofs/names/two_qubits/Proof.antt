@@ -1,6 +1,6 @@
 -- The three choices, from the outermost in.
 use borrow.Author.Needs.{needs}
-use Rattle.text.specs.Gates.{twoQubits}
+use Rattle.text.specs.Names.{twoQubits}
 use Rattle.text.proofs.names.two_qubits.Statement.{statement}
 use Rattle.text.proofs.names.two_qubits.Tie as tie
 

@@ -3,47 +3,49 @@ use borrow.Author.Needs.{needs}
 use native.Mathlib.Omega.{arith}
 use lib.ListN.{length}
 use Prim.Native.Nat.{_-_}
-use Rattle.text.specs.Number.{DigitsRead, reading-start, reading-on, reading-small, reading-below, reading-above, reading-end}
+use Rattle.text.specs.Number.{DigitsLoop}
+use Rattle.text.specs.NumberLaws.{digits-loop-start, digits-loop-next, digits-loop-small, digits-loop-below}
+use Rattle.text.specs.NumberLaws.{digits-loop-above, digits-loop-end}
 use Rattle.text.proofs.number.digits.Statement.{statement}
 use Rattle.text.proofs.number.digits.Tie as tie
 
 abbrev Inv-loop : tie.InvT-loop
-Inv-loop s v₀ i₀ v i = DigitsRead s v i
+Inv-loop s v₀ i₀ v i = DigitsLoop s v i
 
 abbrev μ-loop : tie.MeasureT-loop
 μ-loop s v₀ i₀ v i = length s - i
 
 loop-holds : tie.Need-loop-holds Inv-loop μ-loop
-loop-holds c = reading-start
+loop-holds c = digits-loop-start
 
 returns : tie.Need-returns Inv-loop μ-loop
 returns c =
     let turn = c .before .before .before in
-    reading-below (turn .before .loop .inv) (turn .loop-test .taken) (rw (c .before .wide .ensures .0) at (c .if1 .taken))
+    digits-loop-below (turn .before .loop .inv) (turn .loop-test .taken) (rw (c .before .wide .ensures .0) at (c .if1 .taken))
 
 returns-2 : tie.Need-returns-2 Inv-loop μ-loop
 returns-2 c =
     let turn = c .before .before .before .before in
-    reading-above (turn .before .loop .inv) (turn .loop-test .taken) (rw (c .before .before .wide .ensures .0) at (c .if2 .taken))
+    digits-loop-above (turn .before .loop .inv) (turn .loop-test .taken) (rw (c .before .before .wide .ensures .0) at (c .if2 .taken))
 
 mul-v : tie.Need-mul-v Inv-loop μ-loop
 mul-v c =
     let turn = c .before .before .before .before in
-    omega (arith, reading-small (turn .before .loop .inv) (turn .loop-test .taken) (turn .before .before .before .pre))
+    omega (arith, digits-loop-small (turn .before .loop .inv) (turn .loop-test .taken) (turn .before .before .before .pre))
 
 add-v : tie.Need-add-v Inv-loop μ-loop
 add-v c =
     let turn = c .before .before .before .before in
-    omega (arith, reading-small (turn .before .loop .inv) (turn .loop-test .taken) (turn .before .before .before .pre))
+    omega (arith, digits-loop-small (turn .before .loop .inv) (turn .loop-test .taken) (turn .before .before .before .pre))
 
 loop-again : tie.Need-loop-again Inv-loop μ-loop
 loop-again c =
     let turn = c .before .before .before .before in
     let w = c .before .before .wide .ensures .0 in
-    rw w (reading-on (turn .before .loop .inv) (turn .loop-test .taken) (rw w at (c .before .if1 .left)) (rw w at (c .if2 .left)))
+    rw w (digits-loop-next (turn .before .loop .inv) (turn .loop-test .taken) (rw w at (c .before .if1 .left)) (rw w at (c .if2 .left)))
 
 returns-3 : tie.Need-returns-3 Inv-loop μ-loop
-returns-3 c = reading-end (c .before .loop .inv) (c .loop-test .left)
+returns-3 c = digits-loop-end (c .before .loop .inv) (c .loop-test .left)
 
 pub digits-spec : {M : Type 1} → statement M
 digits-spec =

@@ -1,5 +1,5 @@
 use borrow.Author.Needs.{needs}
-use Rattle.text.specs.Number.{short-plain, first-zero}
+use Rattle.text.specs.NumberLaws.{short-plain, first-zero}
 use Rattle.text.proofs.number.needless.Statement.{statement}
 use Rattle.text.proofs.number.needless.Tie as tie
 

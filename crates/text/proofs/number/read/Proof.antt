@@ -1,7 +1,7 @@
 -- 1 to `most` digits, no needless leading zero: one return for each way to fail.
 use borrow.Author.Needs.{needs}
 use mathlib.Core.Path.{sym, _∙_}
-use Rattle.text.specs.Number.{number-none, number-long, number-needless, number-plain}
+use Rattle.text.specs.NumberLaws.{number-none, number-long, number-needless, number-plain}
 use Rattle.text.proofs.number.read.Statement.{statement}
 use Rattle.text.proofs.number.read.Tie as tie
 

@@ -1,13 +1,13 @@
 use borrow.Author.Needs.{needs}
-use Rattle.text.specs.Engine.{works-leaves, settled-works}
+use Rattle.text.specs.EngineLaws.{cached-settle-requires, sets-register-cached}
 use Rattle.text.proofs.operate.apply.Statement.{statement}
 use Rattle.text.proofs.operate.apply.Tie as tie
 
 settle-requires : tie.Need-settle-requires
-settle-requires c κs = search (needs, works-leaves)
+settle-requires c κs = search (needs, cached-settle-requires)
 
 returns : tie.Need-returns
-returns c = search (needs, settled-works)
+returns c = search (needs, sets-register-cached)
 
 pub apply-spec : {M : Type 1} → statement M
 apply-spec = tie.close

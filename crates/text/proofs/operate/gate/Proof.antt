@@ -1,7 +1,7 @@
 use borrow.Author.Needs.{needs}
-use Rattle.text.specs.Engine.{does-leaves}
-use Rattle.text.specs.GateShape.{placed-allowed}
-use Rattle.text.specs.Respond.{responds-gate}
+use Rattle.text.specs.EngineLaws.{step-settle-requires}
+use Rattle.text.specs.QubitsLaws.{placed-allowed}
+use Rattle.text.specs.RespondLaws.{responds-gate}
 use Rattle.text.proofs.operate.gate.Statement.{statement}
 use Rattle.text.proofs.operate.gate.Tie as tie
 
@@ -9,7 +9,7 @@ gate-requires : tie.Need-gate-requires
 gate-requires c κs = search (needs, placed-allowed)
 
 settle-requires : tie.Need-settle-requires
-settle-requires c κs = search (needs, does-leaves)
+settle-requires c κs = search (needs, step-settle-requires)
 
 returns : tie.Need-returns
 returns c = search (needs, responds-gate)

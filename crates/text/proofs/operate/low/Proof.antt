@@ -1,17 +1,17 @@
 use borrow.Author.Needs.{needs}
-use Rattle.diagram.specs.Standing.{standing-depended, free-alike}
-use Rattle.text.specs.Respond.{refused-depends, lowers}
+use Rattle.diagram.specs.InvariantLaws.{invariant-depends, lower-allowed}
+use Rattle.text.specs.OperateLaws.{low-depends, low-ensures}
 use Rattle.text.proofs.operate.low.Statement.{statement}
 use Rattle.text.proofs.operate.low.Tie as tie
 
 returns : tie.Need-returns
-returns c = search (needs, refused-depends)
+returns c = search (needs, low-depends)
 
 lower-requires : tie.Need-lower-requires
-lower-requires c κs = (search (needs, standing-depended), (search needs, (search needs, (search needs, search (needs, free-alike)))))
+lower-requires c κs = (search (needs, invariant-depends), (search needs, (search needs, search (needs, lower-allowed))))
 
 returns-2 : tie.Need-returns-2
-returns-2 c = search (needs, lowers)
+returns-2 c = search (needs, low-ensures)
 
 pub low-spec : {M : Type 1} → statement M
 low-spec =

@@ -1,11 +1,11 @@
 use borrow.Author.Needs.{needs}
-use Rattle.text.specs.Engine.{edge-leaves}
-use Rattle.text.specs.Respond.{responds-put}
+use Rattle.text.specs.EngineLaws.{edge-settle-requires}
+use Rattle.text.specs.RespondLaws.{responds-put}
 use Rattle.text.proofs.operate.put.Statement.{statement}
 use Rattle.text.proofs.operate.put.Tie as tie
 
 settle-requires : tie.Need-settle-requires
-settle-requires c κs = search (needs, edge-leaves)
+settle-requires c κs = search (needs, edge-settle-requires)
 
 returns : tie.Need-returns
 returns c = search (needs, responds-put)

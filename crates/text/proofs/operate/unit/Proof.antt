@@ -1,11 +1,11 @@
 use borrow.Author.Needs.{needs}
-use Rattle.text.specs.Engine.{does-leaves}
-use Rattle.text.specs.Respond.{responds-unit}
+use Rattle.text.specs.EngineLaws.{step-settle-requires}
+use Rattle.text.specs.RespondLaws.{responds-unit}
 use Rattle.text.proofs.operate.unit.Statement.{statement}
 use Rattle.text.proofs.operate.unit.Tie as tie
 
 settle-requires : tie.Need-settle-requires
-settle-requires c κs = search (needs, does-leaves)
+settle-requires c κs = search (needs, step-settle-requires)
 
 returns : tie.Need-returns
 returns c = search (needs, responds-unit)

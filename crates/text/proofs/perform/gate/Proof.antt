@@ -1,13 +1,13 @@
 use borrow.Author.Needs.{needs}
-use Rattle.text.specs.Perform.{list-valid, extends-refused, extends-empty, extends-gate}
+use Rattle.text.specs.PerformLaws.{list-valid, performs-refused, performs-empty, performs-gate}
 use Rattle.text.proofs.perform.gate.Statement.{statement}
 use Rattle.text.proofs.perform.gate.Tie as tie
 
 returns : tie.Need-returns
-returns c = search (needs, extends-refused)
+returns c = search (needs, performs-refused)
 
 returns-2 : tie.Need-returns-2
-returns-2 c = search (needs, extends-empty)
+returns-2 c = search (needs, performs-empty)
 
 apply-requires : tie.Need-apply-requires
 apply-requires c κs = (search needs, (search needs, (search (needs, list-valid), search needs)))
@@ -18,7 +18,7 @@ returns-3 c =
     let apply = finished .before .before .before .before .before .before .before in
     let get = apply .before .before .before .before .before .before in
     let pre = get .before .before .before .before .before .pre in
-    extends-gate _ (pre .0) (search needs) (pre .1 .0) (get .get .ensures) (pre .1 .1) (search needs) (apply .apply .ensures) (finished .finished .ensures)
+    performs-gate _ (pre .0) (search needs) (pre .1 .0) (get .get .ensures) (pre .1 .1) (search needs) (apply .apply .ensures) (finished .finish .ensures)
 
 pub gate-spec : {M : Type 1} → statement M
 gate-spec =

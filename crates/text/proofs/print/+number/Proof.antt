@@ -4,7 +4,7 @@ use native.Mathlib.Omega.{arith}
 use lib.ListN.{length-set}
 use borrow.Fn.Kinds.{In}
 use borrow.Fn.PlainCycle.{Measures, is, falls, and}
-use Rattle.text.specs.Print.{digit-room, digit-put, digits-room, last-room, last-put}
+use Rattle.text.specs.PrintLaws.{digit-room, digit-put, digits-room, last-room, last-put}
 use Rattle.text.proofs.print.number.Reads as number
 use Rattle.text.proofs.print.number.Kinds as number-kinds
 use Rattle.text.proofs.print.+number.Lts-number as number-lts

@@ -1,5 +1,5 @@
 use borrow.Author.Needs.{needs}
-use Rattle.text.specs.Print.{wrote-then, wrote-room}
+use Rattle.text.specs.PrintLaws.{wrote-then, wrote-room}
 use Rattle.text.proofs.print.labelled.Statement.{statement}
 use Rattle.text.proofs.print.labelled.Tie as tie
 

@@ -1,10 +1,10 @@
 use borrow.Author.Needs.{needs}
-use Rattle.text.specs.Progress.{line-answered}
+use Rattle.text.specs.ProgressLaws.{answer-line-ensures}
 use Rattle.text.proofs.progress.answer_line.Statement.{statement}
 use Rattle.text.proofs.progress.answer_line.Tie as tie
 
 returns : tie.Need-returns
-returns c = search (needs, line-answered)
+returns c = search (needs, answer-line-ensures)
 
 pub answer-line-spec : {M : Type 1} → statement M
 answer-line-spec =

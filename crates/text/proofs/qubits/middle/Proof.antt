@@ -1,5 +1,5 @@
 use borrow.Author.Needs.{needs}
-use Rattle.text.specs.Qubits.{middle-set, middle-small}
+use Rattle.text.specs.QubitsLaws.{middle-set, middle-small}
 use Rattle.text.proofs.qubits.middle.Statement.{statement}
 use Rattle.text.proofs.qubits.middle.Tie as tie
 

@@ -1,5 +1,5 @@
 use borrow.Author.Needs.{needs}
-use Rattle.text.specs.Qubits.{below-one, below-first, below-second, middles-one, middles-two}
+use Rattle.text.specs.QubitsLaws.{below-one, below-first, below-second, middles-one, middles-two}
 use Rattle.text.proofs.qubits.middles.Statement.{statement}
 use Rattle.text.proofs.qubits.middles.Tie as tie
 

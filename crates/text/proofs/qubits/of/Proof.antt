@@ -1,5 +1,5 @@
 use borrow.Author.Needs.{needs}
-use Rattle.text.specs.Qubits.{qubits-one, qubits-below, qubits-above}
+use Rattle.text.specs.QubitsLaws.{qubits-one, qubits-below, qubits-above}
 use Rattle.text.proofs.qubits.of.Statement.{statement}
 use Rattle.text.proofs.qubits.of.Tie as tie
 

@@ -1,6 +1,6 @@
 use borrow.Author.Needs.{needs}
-use Rattle.diagram.specs.Standing.{read-valid}
-use Rattle.text.specs.Respond.{empty-add, empty-add-2, responds-add}
+use Rattle.diagram.specs.InvariantLaws.{read-valid}
+use Rattle.text.specs.RespondLaws.{empty-add, empty-add-2, responds-add}
 use Rattle.text.proofs.respond.add.Statement.{statement}
 use Rattle.text.proofs.respond.add.Tie as tie
 

@@ -1,6 +1,6 @@
 use borrow.Author.Needs.{needs}
-use Rattle.diagram.specs.Standing.{read-valid}
-use Rattle.text.specs.Respond.{empty-at, responds-at}
+use Rattle.diagram.specs.InvariantLaws.{read-valid}
+use Rattle.text.specs.RespondLaws.{empty-at, responds-at}
 use Rattle.text.proofs.respond.at.Statement.{statement}
 use Rattle.text.proofs.respond.at.Tie as tie
 

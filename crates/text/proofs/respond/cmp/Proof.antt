@@ -1,5 +1,5 @@
 use borrow.Author.Needs.{needs}
-use Rattle.text.specs.Respond.{empty-cmp, empty-cmp-2, read-small, responds-cmp}
+use Rattle.text.specs.RespondLaws.{empty-cmp, empty-cmp-2, read-small, responds-cmp}
 use Rattle.text.proofs.respond.cmp.Statement.{statement}
 use Rattle.text.proofs.respond.cmp.Tie as tie
 

@@ -1,5 +1,5 @@
 use borrow.Author.Needs.{needs}
-use Rattle.text.specs.Respond.{responds-collect}
+use Rattle.text.specs.RespondLaws.{responds-collect}
 use Rattle.text.proofs.respond.collect.Statement.{statement}
 use Rattle.text.proofs.respond.collect.Tie as tie
 

@@ -1,6 +1,6 @@
 use borrow.Author.Needs.{needs}
-use Rattle.diagram.specs.Standing.{read-valid}
-use Rattle.text.specs.Respond.{empty-cont, empty-cont-2, responds-cont}
+use Rattle.diagram.specs.InvariantLaws.{read-valid}
+use Rattle.text.specs.RespondLaws.{empty-cont, empty-cont-2, responds-cont}
 use Rattle.text.proofs.respond.cont.Statement.{statement}
 use Rattle.text.proofs.respond.cont.Tie as tie
 

@@ -1,5 +1,5 @@
 use borrow.Author.Needs.{needs}
-use Rattle.text.specs.Respond.{empty-drop, responds-drop}
+use Rattle.text.specs.RespondLaws.{empty-drop, responds-drop}
 use Rattle.text.proofs.respond.drop.Statement.{statement}
 use Rattle.text.proofs.respond.drop.Tie as tie
 

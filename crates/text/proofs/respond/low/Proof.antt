@@ -1,6 +1,6 @@
 use borrow.Author.Needs.{needs}
-use Rattle.diagram.specs.Standing.{read-valid}
-use Rattle.text.specs.Respond.{empty-low, responds-low}
+use Rattle.diagram.specs.InvariantLaws.{read-valid}
+use Rattle.text.specs.RespondLaws.{empty-low, responds-low}
 use Rattle.text.proofs.respond.low.Statement.{statement}
 use Rattle.text.proofs.respond.low.Tie as tie
 

@@ -1,5 +1,5 @@
 use borrow.Author.Needs.{needs}
-use Rattle.text.specs.Respond.{ranged-as, responds-as, observes-as, replies-as, refused-line}
+use Rattle.text.specs.RespondLaws.{ranged-as, responds-as, read-ensures-as, pure-ensures-as, refused-line}
 use Rattle.text.proofs.respond.respond.Statement.{statement}
 use Rattle.text.proofs.respond.respond.Tie as tie
 
@@ -49,16 +49,16 @@ returns-6 : tie.Need-returns-6
 returns-6 c = search (needs, responds-as)
 
 returns-7 : tie.Need-returns-7
-returns-7 c = search (needs, replies-as)
+returns-7 c = search (needs, pure-ensures-as)
 
 returns-8 : tie.Need-returns-8
 returns-8 c = search (needs, responds-as)
 
 returns-9 : tie.Need-returns-9
-returns-9 c = search (needs, observes-as)
+returns-9 c = search (needs, read-ensures-as)
 
 returns-10 : tie.Need-returns-10
-returns-10 c = search (needs, replies-as)
+returns-10 c = search (needs, pure-ensures-as)
 
 returns-11 : tie.Need-returns-11
 returns-11 c = search (needs, refused-line)

@@ -1,10 +1,10 @@
 use borrow.Author.Needs.{needs}
-use Rattle.text.specs.Progress.{whole-text}
+use Rattle.text.specs.ProgressLaws.{session-agrees}
 use Rattle.text.proofs.session.session.Statement.{statement}
 use Rattle.text.proofs.session.session.Tie as tie
 
 returns : tie.Need-returns
-returns c = search (needs, whole-text)
+returns c = search (needs, session-agrees)
 
 pub session-spec : {M : Type 1} → statement M
 session-spec =

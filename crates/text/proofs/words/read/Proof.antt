@@ -1,6 +1,6 @@
 -- The nine choices, from the outermost in.
 use borrow.Author.Needs.{needs}
-use Rattle.text.specs.Calls.{wordOf}
+use Rattle.text.specs.Words.{wordOf}
 use Rattle.text.proofs.words.read.Statement.{statement}
 use Rattle.text.proofs.words.read.Tie as tie
 

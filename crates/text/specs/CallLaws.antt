@@ -1,0 +1,98 @@
+-- Laws of Call: the checks of a field, and that what a call carries is in range.
+use mathlib.Core.Path.{_≡_, refl}
+use mathlib.Core.Bool.{and-false, Bool, true, false, cond, _&&_}
+use mathlib.Core.Logic.{_≢_}
+use Prim.Native.Nat.{ℕ, _≤_, _<_}
+use native.Mathlib.Omega.{arith}
+use borrow.Author.Tests.{le-leb, lt-leb, leb-true, eqb-false}
+use lib.Dec.{leb, eqb}
+use Rattle.text.specs.Limits.{lastRegister, registerCount, lastIndex, lastMask, lastWeight, mostQubits}
+use Rattle.text.specs.Args.{oneNumber, twoNumbers, threeNumbers, fourNumbers}
+use Rattle.text.specs.Call.{checkRegister, checkRange, malformed, Ranged, checkApart, callOf}
+use Rattle.text.specs.ArgsLaws.{by-count}
+use Rattle.text.specs.declared.call.Call.{Call}
+use Rattle.text.specs.declared.call.Refusal.the-variants.{Register, Range, Equal}
+use Rattle.text.specs.declared.call.Call.the-variants.{Refused, Collect}
+use Rattle.text.specs.declared.args.Args.{Args}
+use Rattle.text.specs.declared.words.Word.{Word}
+use Rattle.text.specs.declared.words.Word.the-variants as word
+
+pub register-yes : (d : ℕ) (next : Call) → d ≤ lastRegister → next ≡ checkRegister d next
+unfolding checkRegister
+register-yes d next h = rw (le-leb d lastRegister h)
+
+pub register-no : (d : ℕ) (next : Call) → lastRegister < d → Refused Register ≡ checkRegister d next
+unfolding checkRegister
+register-no d next h = rw (lt-leb d lastRegister h)
+
+pub within-yes : (x least most : ℕ) (next : Call) → least ≤ x → x ≤ most → next ≡ checkRange x least most next
+unfolding checkRange
+within-yes x least most next p q = rw (le-leb least x p, le-leb x most q)
+
+pub within-below : (x least most : ℕ) (next : Call) → x < least → Refused Range ≡ checkRange x least most next
+unfolding checkRange
+within-below x least most next p = rw (lt-leb least x p)
+
+pub within-above : (x least most : ℕ) (next : Call) → most < x → Refused Range ≡ checkRange x least most next
+unfolding checkRange
+within-above x least most next p = rw (lt-leb x most p, and-false (leb least x))
+
+on-one : (f : ℕ → Call) → ((a : ℕ) → Ranged (f a)) → (x : Args) → Ranged (oneNumber malformed f x)
+on-one f h = by-count Ranged _ _ f _ _ _ tt tt h (λ a b. tt) (λ a b c. tt) (λ a b c d. tt)
+
+on-two : (f : ℕ → ℕ → Call) → ((a b : ℕ) → Ranged (f a b)) → (x : Args) → Ranged (twoNumbers malformed f x)
+on-two f h = by-count Ranged _ _ _ f _ _ tt tt (λ a. tt) h (λ a b c. tt) (λ a b c d. tt)
+
+on-three : (f : ℕ → ℕ → ℕ → Call) → ((a b c : ℕ) → Ranged (f a b c)) → (x : Args) → Ranged (threeNumbers malformed f x)
+on-three f h = by-count Ranged _ _ _ _ f _ tt tt (λ a. tt) (λ a b. tt) h (λ a b c d. tt)
+
+on-four : (f : ℕ → ℕ → ℕ → ℕ → Call) → ((a b c d : ℕ) → Ranged (f a b c d)) → (x : Args)
+    → Ranged (fourNumbers malformed f x)
+on-four f h = by-count Ranged _ _ _ _ _ f tt tt (λ a. tt) (λ a b. tt) (λ a b c. tt) h
+
+pub on-register : (d : ℕ) (next : Call) → (d < registerCount → Ranged next) → Ranged (checkRegister d next)
+unfolding checkRegister
+on-register d next f = go (leb d lastRegister) refl
+  where
+    go : (t : Bool) → leb d lastRegister ≡ t → Ranged (cond t next (Refused Register))
+    go true e = f (omega (arith, leb-true d lastRegister e))
+    go false e = tt
+
+pub on-within : (x least most : ℕ) (next : Call) → (least ≤ x → x ≤ most → Ranged next)
+    → Ranged (checkRange x least most next)
+unfolding checkRange
+on-within x least most next f = go (leb least x) (leb x most) refl refl
+  where
+    go : (t u : Bool) → leb least x ≡ t → leb x most ≡ u → Ranged (cond (t && u) next (Refused Range))
+    go true true p q = f (leb-true least x p) (leb-true x most q)
+    go true false p q = tt
+    go false u p q = tt
+
+pub on-apart : (p q : ℕ) (next : Call) → (p ≢ q → Ranged next) → Ranged (checkApart p q next)
+unfolding checkApart
+on-apart p q next f = go (eqb p q) refl
+  where
+    go : (t : Bool) → eqb p q ≡ t → Ranged (cond t (Refused Equal) next)
+    go true e = tt
+    go false e = f (eqb-false p q e)
+
+pub call-ranged : (w : Word) (args : Args) → Ranged (callOf w args)
+unfolding callOf
+call-ranged word.Put args =
+    on-two _ (λ d w. on-register d _ (λ p. on-within w 0 lastWeight _ (λ l m. (p, omega arith)))) args
+call-ranged word.Unit args =
+    on-two _ (λ d n. on-register d _ (λ p. on-within n 1 mostQubits _ (λ l m. (p, (l, m))))) args
+call-ranged word.Add args =
+    on-three _ (λ d a b. on-register d _ (λ p. on-register a _ (λ q. on-register b _ (λ r. (p, (q, r)))))) args
+call-ranged word.Cont args =
+    on-four _ (λ d a b m. on-register d _ (λ p. on-register a _ (λ q. on-register b _ (λ r.
+    on-within m 0 lastMask _ (λ l h. (p, (q, (r, omega arith)))))))) args
+call-ranged word.Low args =
+    on-three _ (λ d a k. on-register d _ (λ p. on-register a _ (λ q. on-within k 1 lastIndex _ (λ l h. (p, (q, (l, h))))))) args
+call-ranged word.Drop args = on-one _ (λ a. on-register a _ (λ p. p)) args
+call-ranged word.Collect args =
+    by-count Ranged malformed Collect _ _ _ _ tt tt (λ a. tt) (λ a b. tt) (λ a b c. tt) (λ a b c d. tt) args
+call-ranged word.At args =
+    on-two _ (λ a v. on-register a _ (λ p. on-within v 0 lastMask _ (λ l h. (p, omega arith)))) args
+call-ranged word.Cmp args = on-two _ (λ a b. on-register a _ (λ p. on-register b _ (λ q. (p, q)))) args
+call-ranged word.Unknown args = tt

@@ -1,0 +1,309 @@
+-- Laws of Respond: the operands, and the refusals in order.
+use mathlib.Core.Path.{_≡_, subst, sym, ap, _∙_, refl}
+use mathlib.Core.List.{List}
+use mathlib.Core.Logic.{_≢_}
+use mathlib.Core.Bool.{false, true, false≢true}
+use Prim.Native.Nat.{_-_, ℕ, _<_}
+use native.Mathlib.Omega.{arith}
+use lib.ListN.{set}
+use Rattle.diagram.specs.InvariantLaws.{holds-read, read-valid, invariant-clear, invariant-collect}
+use Rattle.diagram.specs.Tensor.{Tensor, indices, bits, constant, value}
+use Rattle.diagram.specs.Engine.{setOf, tensorOf, Refines}
+use Rattle.diagram.specs.EngineLaws.{set-length}
+use Rattle.diagram.specs.Registers.{GetEnsures, RegistersValid, emptyRegister, holds}
+use Rattle.diagram.specs.RegistersLaws.{holds-set}
+use Rattle.diagram.specs.Node.{capacity}
+use Rattle.diagram.specs.Weights.{toWeight, Represents, represents-number, modulus}
+use Rattle.diagram.specs.Tally.{Step, return, sum, cont, build}
+use Rattle.diagram.specs.Gate.{gateTensor, unitTensor}
+use Rattle.diagram.specs.Compare.{ComparisonMeans, compared, CompareEnsures}
+use Rattle.diagram.specs.CompareLaws.{compared-means}
+use Rattle.diagram.specs.Collect.{CollectEnsures}
+use Rattle.text.specs.Limits.{registerCount}
+use Rattle.text.specs.Call.{Ranged, refusalNumber}
+use Rattle.text.specs.Answer.{isNo, SmallAnswer}
+use Rattle.text.specs.Session.{TallyReply, refuse, withTensor, withRegister, most, answer, settle, comparison}
+use Rattle.text.specs.Session.{nodeCount, accept}
+use Rattle.text.specs.Engine.{EngineInvariant, tallyOf, RefuseEnsures, FullForgets, SetsRegister, SettleEnsures}
+use Rattle.text.specs.Operate.{LowEnsures}
+use Rattle.text.specs.Respond.{RespondEnsures, ReadEnsures, PureEnsures, Forgets}
+use Rattle.text.specs.EngineLaws.{sets-register-constant, sets-register-step, never-full}
+use Rattle.text.specs.declared.call.Call.{Call}
+use Rattle.text.specs.declared.engine.Engine.{Engine}
+use Rattle.text.specs.declared.engine.Reply.{Reply}
+use Rattle.diagram.specs.declared.node.Edge.{Edge}
+use Rattle.diagram.specs.declared.registers.Held.{Held}
+use Rattle.text.specs.declared.call.Refusal.the-variants.{Empty}
+use Rattle.text.specs.declared.answer.Answer.{Answer}
+use Rattle.text.specs.declared.answer.Answer.the-variants.{Ok, No, Value, Same, Factor, Differ}
+use Rattle.text.specs.declared.call.Refusal.{Refusal}
+use Rattle.diagram.specs.declared.join.Outcome.{Outcome}
+use Rattle.diagram.specs.declared.gate.Gate.{Gate}
+use Rattle.diagram.specs.declared.compare.Comparison.{Comparison}
+use Rattle.diagram.specs.declared.registers.Register.{Register}
+use Rattle.diagram.specs.declared.registers.Registers.{Registers}
+use Rattle.diagram.specs.declared.make.State.{State}
+use Rattle.diagram.specs.declared.registers.Held.the-variants as held
+use Rattle.text.specs.declared.call.Call.the-variants as call
+use Rattle.diagram.specs.declared.join.Outcome.the-variants as outcome
+use Rattle.diagram.specs.declared.compare.Comparison.the-variants as compare
+
+-- what a call's line said, case by case
+
+pub ranged-as : {x : Call} (y : Call) → Ranged y → y ≡ x → Ranged x
+ranged-as y r e = subst Ranged e r
+
+pub responds-as : {c' s s' : List ℕ} {e : Engine} {x y : Call} {r : Reply} → y ≡ x → RespondEnsures c' s s' e x r
+    → RespondEnsures c' s s' e y r
+responds-as {c'} {s} {s'} {e} {r = r} q h = subst (λ z. RespondEnsures c' s s' e z r) (sym q) h
+
+pub read-ensures-as : {c s : List ℕ} {e : Engine} {x y : Call} {r : Reply} → EngineInvariant c s e → y ≡ x
+    → ReadEnsures s e x r
+    → RespondEnsures c s s e y r
+read-ensures-as {c} p q h = responds-as q (h .on c p)
+
+pub pure-ensures-as : {c s : List ℕ} {e : Engine} {x y : Call} {r : Reply} → EngineInvariant c s e → y ≡ x
+    → PureEnsures e x r
+    → RespondEnsures c s s e y r
+pure-ensures-as {s = s} p q h = read-ensures-as p q (h .on s)
+
+-- an operand
+
+module _ (s : List ℕ) (e : Engine) {a : ℕ} {h : Held} (r : GetEnsures (e .registers .all) a h)
+    (f : Tensor indices → TallyReply indices) where
+  pub operand : {x : Edge} → h ≡ held.Edge x → withRegister (tallyOf s e) a f ≡ f (tensorOf s (e .state) x)
+  unfolding withRegister withTensor tallyOf tensorOf
+  operand q = rw (holds-read (setOf s (e .state)) r, q)
+
+  pub operand-empty : h ≡ held.Empty → withRegister (tallyOf s e) a f ≡ refuse Empty (tallyOf s e)
+  unfolding withRegister withTensor tallyOf
+  operand-empty q = rw (holds-read (setOf s (e .state)) r, q)
+
+-- refusals that have begun nothing
+
+abbrev refusalOfAnswer : Answer → ℕ
+refusalOfAnswer (Ok n) = 0
+refusalOfAnswer (No r) = refusalNumber r
+refusalOfAnswer (Value w) = 0
+refusalOfAnswer Same = 0
+refusalOfAnswer (Factor f) = 0
+refusalOfAnswer Differ = 0
+
+-- a refusal with another number is not as full
+pub refused-forgets : {c : List ℕ} {e : Engine} {r : Reply} (why : Refusal) → refusalNumber why ≢ 8
+    → RefuseEnsures e why r → FullForgets c r
+refused-forgets why n f q = absurd (n (ap refusalOfAnswer (sym (f .answer) ∙ q)))
+
+module _ {c s : List ℕ} {e : Engine} {r : Reply} (p : EngineInvariant c s e) where
+  pub respond-refused : {x : Call} {why : Refusal} → Forgets x c r → RefuseEnsures e why r
+      → answer (most (capacity s)) x (tallyOf s e) ≡ refuse why (tallyOf s e) → RespondEnsures c s s e x r
+  unfolding refuse
+  respond-refused {x} {why} n f q = record {
+    invariant = rw (f .engine) p;
+    small = rw (f .answer) tt;
+    is = rw (f .answer, f .engine) q;
+    refused = λ no. rw (f .engine) record { nodes = refl; registers = refl };
+    forgets = n;
+  }
+
+  pub refused-line : {x : Call} {why : Refusal} → x ≡ call.Refused why → RefuseEnsures e why r
+      → RespondEnsures c s s e x r
+  unfolding answer
+  refused-line q f = respond-refused (rw q tt) f (rw q)
+
+  module _ {a : ℕ} {h : Held} (g : GetEnsures (e .registers .all) a h) (q : h ≡ held.Empty)
+      (f : RefuseEnsures e Empty r) where
+    pub empty-add : {d b : ℕ} → RespondEnsures c s s e (call.Add d a b) r
+    unfolding answer
+    empty-add = respond-refused (refused-forgets Empty (λ z. omega arith) f) f (operand-empty s e g _ q)
+
+    pub empty-cont : {d b m : ℕ} → RespondEnsures c s s e (call.Cont d a b m) r
+    unfolding answer
+    empty-cont = respond-refused (refused-forgets Empty (λ z. omega arith) f) f (operand-empty s e g _ q)
+
+    pub empty-low : {d k : ℕ} → RespondEnsures c s s e (call.Low d a k) r
+    unfolding answer
+    empty-low = respond-refused (refused-forgets Empty (λ z. omega arith) f) f (operand-empty s e g _ q)
+
+  -- the second operand
+  module _ {a b : ℕ} {h g : Held} {x : Edge} (i : GetEnsures (e .registers .all) a h) (o : h ≡ held.Edge x)
+      (j : GetEnsures (e .registers .all) b g) (q : g ≡ held.Empty) (f : RefuseEnsures e Empty r) where
+    pub empty-add-2 : {d : ℕ} → RespondEnsures c s s e (call.Add d a b) r
+    unfolding answer
+    empty-add-2 =
+        respond-refused (refused-forgets Empty (λ z. omega arith) f) f (operand s e i _ o ∙ operand-empty s e j _ q)
+
+    pub empty-cont-2 : {d m : ℕ} → RespondEnsures c s s e (call.Cont d a b m) r
+    unfolding answer
+    empty-cont-2 =
+        respond-refused (refused-forgets Empty (λ z. omega arith) f) f (operand s e i _ o ∙ operand-empty s e j _ q)
+
+module _ {e : Engine} {r : Reply} {a : ℕ} {h : Held} (g : GetEnsures (e .registers .all) a h) where
+  pub empty-drop : h ≡ held.Empty → RefuseEnsures e Empty r → PureEnsures e (call.Drop a) r
+  unfolding answer
+  empty-drop q f = record { on = λ s. record { on = λ c p. respond-refused p (refused-forgets Empty (λ z. omega arith) f) f (operand-empty s e g _ q) } }
+
+  pub empty-at : {s : List ℕ} {v : ℕ} → h ≡ held.Empty → RefuseEnsures e Empty r → ReadEnsures s e (call.At a v) r
+  unfolding answer
+  empty-at {s} q f =
+      record { on = λ c p. respond-refused p (refused-forgets Empty (λ z. omega arith) f) f (operand-empty s e g _ q) }
+
+  pub empty-cmp : {b : ℕ} → h ≡ held.Empty → RefuseEnsures e Empty r → PureEnsures e (call.Cmp a b) r
+  unfolding answer
+  empty-cmp q f = record { on = λ s. record { on = λ c p. respond-refused p (refused-forgets Empty (λ z. omega arith) f) f (operand-empty s e g _ q) } }
+
+  pub empty-cmp-2 : {b : ℕ} {k : Held} {x : Edge} → h ≡ held.Edge x → GetEnsures (e .registers .all) b k
+      → k ≡ held.Empty
+      → RefuseEnsures e Empty r
+      → PureEnsures e (call.Cmp a b) r
+  unfolding answer
+  empty-cmp-2 o j q f =
+      record { on = λ s. record { on = λ c p. respond-refused p (refused-forgets Empty (λ z. omega arith) f) f (operand s e g _ o ∙ operand-empty s e j _ q) } }
+
+-- the calls that set a register
+
+module _ {c' s s' : List ℕ} {e : Engine} {d : ℕ} {r : Reply} where
+  sets-register-as : {f : Step indices} {x : Call} → (FullForgets c' r → Forgets x c' r)
+      → answer (most (capacity s)) x (tallyOf s e) ≡ settle (most (capacity s)) d (f (setOf s (e .state))) (tallyOf s e)
+      → SetsRegister c' s s' e d f r → RespondEnsures c' s s' e x r
+  sets-register-as n q h =
+      record {
+        invariant = h .invariant;
+        small = h .small;
+        is = q ∙ h .is;
+        refused = h .refused;
+        forgets = n (h .forgets);
+      }
+
+  module _ {c : List ℕ} (p : EngineInvariant c s e) where
+    pub responds-put : {w : ℕ} → w < modulus
+        → SettleEnsures c s c' s' e d (outcome.Edge (record { weight = w; node = 0 }) (e .state)) r
+        → RespondEnsures c' s s' e (call.Put d w) r
+    unfolding answer return tallyOf
+    responds-put {w} small h =
+        sets-register-as {f = return (constant indices (toWeight w))} (λ z. z) refl (sets-register-constant p small h)
+
+    pub responds-gate : {s₁ : List ℕ} {m : Outcome} {g : Gate}
+        → Refines s s₁ (e .state) (build (gateTensor indices g)) m
+        → SettleEnsures c s₁ c' s' e d m r
+        → RespondEnsures c' s s' e (call.Gate d g) r
+    unfolding answer tallyOf
+    responds-gate {g = g} w h = sets-register-as {f = build (gateTensor indices g)} (λ z. z) refl (sets-register-step p _ w h)
+
+    pub responds-unit : {s₁ : List ℕ} {m : Outcome} {n : ℕ} → Refines s s₁ (e .state) (build (unitTensor indices n)) m
+        → SettleEnsures c s₁ c' s' e d m r
+        → RespondEnsures c' s s' e (call.Unit d n) r
+    unfolding answer tallyOf
+    responds-unit {n = n} w h = sets-register-as {f = build (unitTensor indices n)} (λ z. z) refl (sets-register-step p _ w h)
+
+  module _ {a b : ℕ} {h g : Held} {x y : Edge} (i : GetEnsures (e .registers .all) a h) (o : h ≡ held.Edge x)
+      (j : GetEnsures (e .registers .all) b g) (q : g ≡ held.Edge y) where
+    pub responds-add : SetsRegister c' s s' e d (sum (tensorOf s (e .state) x) (tensorOf s (e .state) y)) r
+        → RespondEnsures c' s s' e (call.Add d a b) r
+    unfolding answer tallyOf
+    responds-add w = sets-register-as (λ z. z) (operand s e i _ o ∙ operand s e j _ q) w
+
+    pub responds-cont : {m : ℕ}
+        → SetsRegister c' s s' e d (cont (tensorOf s (e .state) x) (tensorOf s (e .state) y) (bits m)) r
+        → RespondEnsures c' s s' e (call.Cont d a b m) r
+    unfolding answer tallyOf
+    responds-cont w = sets-register-as (λ z. z) (operand s e i _ o ∙ operand s e j _ q) w
+
+pub responds-low : {c' s s' : List ℕ} {e : Engine} {d a k : ℕ} {h : Held} {x : Edge} {r : Reply}
+    → GetEnsures (e .registers .all) a h → h ≡ held.Edge x
+    → LowEnsures c' s s' e d k x r → RespondEnsures c' s s' e (call.Low d a k) r
+unfolding answer tallyOf
+responds-low {s = s} {e = e} i o w = record {
+  invariant = w .invariant;
+  small = w .small;
+  is = operand s e i _ o ∙ w .is;
+  refused = w .refused;
+  forgets = w .forgets;
+}
+
+-- the others
+
+pub comparison-factor : {f : ℕ} {c : Comparison} → c ≡ compare.Factor f → Factor f ≡ comparison c
+comparison-factor q = ap comparison (sym q)
+
+-- weights of valid edges are small
+pub read-small : {m : ℕ} {rs : List Register} {i : ℕ} {x : Edge} {h : Held} → RegistersValid m rs → i < registerCount
+    → GetEnsures rs i h → h ≡ held.Edge x → x .weight < modulus
+read-small {h = h} g p r q = read-valid h g p r q .small
+
+comparison-accepted : (r : Comparison) → isNo (comparison r) ≡ false
+comparison-accepted compare.Same = refl
+comparison-accepted (compare.Factor f) = refl
+comparison-accepted compare.Differ = refl
+
+small-comparison : (A B : Tensor indices) (r : Comparison) → ComparisonMeans A B r → SmallAnswer (comparison r)
+small-comparison A B compare.Same n = tt
+small-comparison A B (compare.Factor f) n = omega (arith, n .small)
+small-comparison A B compare.Differ n = tt
+
+module _ {e : Engine} {a : ℕ} {h : Held} {x : Edge} (i : GetEnsures (e .registers .all) a h) (o : h ≡ held.Edge x) where
+  pub responds-drop : {rs : Registers} → rs .all ≡ set (e .registers .all) a emptyRegister
+      → PureEnsures e (call.Drop a)
+      (record { answer = Ok (e .state .count); engine = record { state = e .state; registers = rs } })
+  unfolding answer accept nodeCount tallyOf holds
+  responds-drop {rs} q = record { on = λ s. record { on = λ c p. on c s p } }
+    where
+      on : (c s : List ℕ) → EngineInvariant c s e
+          → RespondEnsures c s s e (call.Drop a)
+          (record { answer = Ok (e .state .count); engine = record { state = e .state; registers = rs } })
+      on c s p = record {
+        invariant = invariant-clear a p q;
+        small = omega (arith, p .sound .stored .numbered);
+        is = operand s e i _ o
+            ∙ rw (set-length s (e .state), q, holds-set (setOf s (e .state)) (e .registers .all) a emptyRegister);
+        refused = λ no. absurd (false≢true no);
+        forgets = never-full (Ok (e .state .count)) refl;
+      }
+
+  pub responds-at : {s : List ℕ} {v w : ℕ} → Represents w (value (tensorOf s (e .state) x) v)
+      → ReadEnsures s e (call.At a v) (record { answer = Value w; engine = e })
+  unfolding answer
+  responds-at {s} {v} {w} n = record { on = on }
+    where
+      on : (c : List ℕ) → EngineInvariant c s e
+          → RespondEnsures c s s e (call.At a v) (record { answer = Value w; engine = e })
+      on c p = record {
+        invariant = p;
+        small = omega (arith, n .small);
+        is = operand s e i _ o ∙ ap (λ n. (Value n, tallyOf s e)) (sym (represents-number n));
+        refused = λ no. record { nodes = refl; registers = refl };
+        forgets = never-full (Value w) refl;
+      }
+
+  pub responds-cmp : {b : ℕ} {g : Held} {y : Edge} {r : Comparison} {n : Answer} → a < registerCount → b < registerCount
+      → GetEnsures (e .registers .all) b g → g ≡ held.Edge y
+      → CompareEnsures x y r → n ≡ comparison r → PureEnsures e (call.Cmp a b) (record { answer = n; engine = e })
+  unfolding answer
+  responds-cmp {b} {g} {y} {r} {n} u v j q w m = record { on = λ s. record { on = λ c p. on c s p } }
+    where
+      on : (c s : List ℕ) → EngineInvariant c s e
+          → RespondEnsures c s s e (call.Cmp a b) (record { answer = n; engine = e })
+      on c s p =
+          let t : compared (tensorOf s (e .state) x) (tensorOf s (e .state) y) ≡ r =
+          w .is s (e .state) (p .sound) (read-valid h (p .registers) u i o) (read-valid g (p .registers) v j q) in
+          record {
+            invariant = p;
+            small =
+                subst SmallAnswer (sym m) (small-comparison _ _ r (subst (ComparisonMeans _ _) t (compared-means (tensorOf s (e .state) x) (tensorOf s (e .state) y))));
+            is = operand s e i _ o ∙ operand s e j _ q ∙ ap (λ z. (z, tallyOf s e)) (ap comparison t ∙ sym m);
+            refused = λ no. record { nodes = refl; registers = refl };
+            forgets = never-full n (ap isNo m ∙ comparison-accepted r);
+          }
+
+pub responds-collect : {c' s s' : List ℕ} {e : Engine} {st : State} {rs : Registers}
+    → CollectEnsures c' s s' (e .state) st (e .registers .all) (rs .all)
+    → RespondEnsures c' s s' e call.Collect
+    (record { answer = Ok (st .count); engine = record { state = st; registers = rs } })
+unfolding answer accept nodeCount tallyOf
+responds-collect {s' = s'} {st = st} w = record {
+  invariant = invariant-collect w;
+  small = omega (arith, w .sound .stored .numbered);
+  is = rw (w .same, ← w .set, set-length s' st);
+  refused = λ no. absurd (false≢true no);
+  forgets = w .forgotten;
+}
