@@ -4,7 +4,7 @@ use mathlib.Core.List.{List}
 use Prim.Native.Nat.{ℕ, _<_}
 use native.Mathlib.Omega.{arith}
 use Rattle.diagram.specs.Weights.{modulus}
-use Rattle.diagram.specs.Tensor.{indices, Tensor}
+use Rattle.diagram.specs.Tensor.{indexCount, indices, Tensor}
 use Rattle.diagram.specs.Tally.{Step, join}
 use Rattle.diagram.specs.Engine.{setOf, tensorOf, Sound, RefinesEdge, Refines}
 use Rattle.diagram.specs.Join.{JoinRequires}
@@ -33,8 +33,8 @@ leaf-joinable {w = w} h p =
       inside = omega arith;
       low = constant-valid (omega arith);
       high = constant-valid p;
-      from-low = rw (constant-tensor 1 h) (free-below-constant 24 indices _);
-      from-high = rw (constant-tensor w h) (free-below-constant 24 indices _);
+      from-low = rw (constant-tensor 1 h) (free-below-constant indexCount indices _);
+      from-high = rw (constant-tensor w h) (free-below-constant indexCount indices _);
     }
 
 leaf-from : {s s' : List ℕ} {st st' : State} {e : Edge} (w : ℕ) → Sound s st

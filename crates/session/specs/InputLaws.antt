@@ -11,23 +11,20 @@ use Rattle.text.specs.Engine.{EngineStartEnsures}
 use Rattle.text.specs.declared.engine.Engine.{Engine}
 use Rattle.text.specs.declared.squeeze.Squeeze.{Squeeze}
 use Rattle.session.specs.Answer.{Memory, none}
-use Rattle.session.specs.Feed.{FeedRequires}
+use Rattle.session.specs.Feed.{FeedRequires, FeedInvariant}
 use Rattle.session.specs.FeedLaws.{after-none}
 use Rattle.session.specs.Input.{ReadEnsures, InputInvariant, goesOn, ReceiveEnsures}
 use Rattle.session.specs.declared.feed.SessionState.{SessionState}
 use Rattle.session.specs.declared.input.AfterRead.{AfterRead}
 
 pub input-start : {m : Memory} {q : Squeeze} {e : Engine} → 64 ≤ length (m .line) → NoneEnsures q
-    → EngineStartEnsures (m .cache) (m .store) e → InputInvariant m (record { squeeze = q; engine = e; written = true })
+    → EngineStartEnsures (m .cache) (m .store) e
+    → FeedInvariant [] 0 m (record { squeeze = q; engine = e; written = true })
 input-start {m} h b a = record {
-  text = [];
-  lines = 0;
-  invariant = record {
-    requires = record { room = h; fits = b .fits; invariant = a .invariant };
-    to = record { done = []; behind = []; split = λ rest. refl; ran = after-none a };
-    count = refl;
-    seen = λ o. record { unbroken = none; squeezing = b .start (m .line) };
-  };
+  requires = record { room = h; fits = b .fits; invariant = a .invariant };
+  to = record { done = []; behind = []; split = λ rest. refl; ran = after-none a };
+  count = refl;
+  seen = λ o. record { unbroken = none; squeezing = b .start (m .line) };
 }
 
 input-step : {m m' : Memory} {h : SessionState} {r : AfterRead} → InputInvariant m h → ReadEnsures m h m' r

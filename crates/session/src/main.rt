@@ -16,9 +16,10 @@ use text::engine;
 use text::squeeze;
 ghost use mathlib.Core.Path.{_≡_};
 ghost use mathlib.Core.Bool.{true};
+ghost use mathlib.Core.List.{[]};
 ghost use Rattle.diagram.specs.Node.{capacity};
 ghost use Rattle.session.specs.Answer.{memory};
-ghost use Rattle.session.specs.Input.{InputInvariant};
+ghost use Rattle.session.specs.Feed.{FeedInvariant};
 ghost use Rattle.session.specs.Session.{SessionEnsures};
 
 // 2048 nodes of 16 bytes.
@@ -29,7 +30,7 @@ const CACHE: usize = 16384;
 
 // The input to its end, and its last line.
 fn session(line: &mut [u8], store: &mut [u8], cache: &mut [u64], start: SessionState) -> Outcome
-    requires { ⌜ InputInvariant (memory (now line) (now cache) (now store)) start × (start .written ≡ true) ⌝ }
+    requires { ⌜ FeedInvariant [] 0 (memory (now line) (now cache) (now store)) start × (start .written ≡ true) ⌝ }
     ensures { λ r. ⌜ SessionEnsures (now (store .exit)) r ⌝ }
 {
     let after = input::receive(line, store, cache, start);

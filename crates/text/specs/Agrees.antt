@@ -7,7 +7,7 @@ use mathlib.Core.Logic.{_↔_}
 use mathlib.Core.List.{List, []}
 use Prim.Native.Nat.{ℕ, _^_, _<_, _-_, _*_, _≤_, suc}
 use lib.ListN.{getD, length, take}
-use Rattle.diagram.specs.Tensor.{indices, Tensor, value, top, fix, Normal, scale}
+use Rattle.diagram.specs.Tensor.{indices, Tensor, value, top, fix, Normal, scale, indexCount}
 use Rattle.diagram.specs.Tally.{Set}
 use Rattle.diagram.specs.Node.{nodeAt, listed}
 use Rattle.diagram.specs.Meaning.{tensors, tensorAt, edgeIn, Valid}
@@ -46,7 +46,7 @@ Agree A B = (v : ℕ) → v < 2 ^ indices → value A v ≡ value B v
 -- number for low and for high."
 pub record IsNode (s : Bytes) (ts : Set indices) (n : ℕ) : Type 0 where
   -- its index is one of "the indices 0 to 23", and the top of its tensor: "the lowest index on which it depends"
-  pub index : nodeAt s n .index < 24
+  pub index : nodeAt s n .index < indexCount
   pub top : top (tensorAt ts n) ≡ some (nodeAt s n .index)
   -- low and high each: the weight is below 65537, the node's number is smaller than n, and "Zero is weight 0 at node
   -- 0."

@@ -7,7 +7,7 @@ use Prim.Native.Nat.{ℕ, _-_, zero, suc, _≤_, _<_, _+_}
 use native.Mathlib.Omega.{arith}
 use lib.ListN.{set, getD, length}
 use lib.Dec.{leb}
-use Rattle.diagram.specs.Tensor.{Tensor, same, bits, constant, depends, indices, indices-count}
+use Rattle.diagram.specs.Tensor.{Tensor, same, bits, constant, depends, indices, indices-count, indexCount}
 use Rattle.diagram.specs.Tally.{Set, member, filled, collect, Step, sum, cont, low, build, keeps, return}
 use Rattle.diagram.specs.Sets.{PrefixOf}
 use Rattle.diagram.specs.SetsLaws.{prefix-refl}
@@ -153,7 +153,7 @@ start-complete d = record { normal = normal-set-empty; covered = tt }
 
 -- At every point of every run: for all lines, and so for those answered so far.
 
-ranged-low-below : (x : Call) → Ranged x → LowBelow 24 x
+ranged-low-below : (x : Call) → Ranged x → LowBelow indexCount x
 ranged-low-below (call.Put r w) h = tt
 ranged-low-below (call.Gate r g) h = tt
 ranged-low-below (call.Unit r n) h = tt

@@ -10,7 +10,7 @@ use borrow.Author.Tests.{eqb-false, eq-eqb}
 use lib.Dec.{eqb}
 use Rattle.diagram.specs.Gate.{shape, ShapeBelow, GateBelow, firstQubitOn, secondQubitOn}
 use Rattle.diagram.specs.MaskLaws.{one-shl}
-use Rattle.diagram.specs.Tensor.{bits}
+use Rattle.diagram.specs.Tensor.{bits, indexCount}
 use Rattle.diagram.specs.Entry.{QubitsInRange}
 use Rattle.text.specs.Limits.{mostQubits}
 use Rattle.text.specs.Names.{PlacedOn, Placed}
@@ -147,6 +147,6 @@ gate-rising d n g l p = on (shape g) p
     on (shapes.One q) p = (omega arith, omega arith, tt)
     on (shapes.Two a b) p = (omega arith, omega arith, (omega (arith, p .1 .1), omega arith, tt))
 
-pub placed-fit : (n : ℕ) (gs : List Gate) → n ≤ mostQubits → AllPlaced n gs → AllFit 24 gs
+pub placed-fit : (n : ℕ) (gs : List Gate) → n ≤ mostQubits → AllPlaced n gs → AllFit indexCount gs
 placed-fit n [] l p = tt
-placed-fit n (g ∷ gs) l p = (gate-rising 24 n g (omega arith) (p .0), placed-fit n gs l (p .1))
+placed-fit n (g ∷ gs) l p = (gate-rising indexCount n g (omega arith) (p .0), placed-fit n gs l (p .1))

@@ -6,7 +6,7 @@ use Prim.Native.Nat.{ℕ, _-_, _+_, _≤_}
 use native.Mathlib.Omega.{arith}
 use lib.ListN.{length, getD}
 use Rattle.diagram.specs.Gate.{unitTensor}
-use Rattle.diagram.specs.Tensor.{Tensor, indices, indices-count}
+use Rattle.diagram.specs.Tensor.{Tensor, indices, indices-count, indexCount}
 use Rattle.text.specs.Text.{Bytes, lines}
 use Rattle.text.specs.Limits.{registerCount, mostQubits}
 use Rattle.text.specs.Session.{emptyTally, unlimited, Capacity, answer, withRegister, withTensor}
@@ -127,5 +127,5 @@ ruling-judged c text {n} {gs} {hs} e =
     (ruling-both c (appliedList gs (unitTensor indices n)) (appliedList hs (unitTensor indices n))
     (session-runs c n gs hs (fit gs (placed-fit n gs (g .most-qubits) (g .first))) (fit hs (placed-fit n hs (g .most-qubits) (g .second)))))
   where
-    fit : (gs : List Gate) → AllFit 24 gs → AllFit indices gs
+    fit : (gs : List Gate) → AllFit indexCount gs → AllFit indices gs
     fit gs f = rw indices-count f

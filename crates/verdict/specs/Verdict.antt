@@ -7,19 +7,20 @@ use lib.ListN.{length}
 use Rattle.stdin.specs.declared.Next.the-variants.{End}
 use Rattle.text.specs.Text.{Bytes}
 use Rattle.text.specs.declared.ruling.VerdictResult.{VerdictResult}
-use Rattle.verdict.specs.Input.{Reads}
+use Rattle.verdict.specs.Input.{BufferHolds, Reads}
 use Rattle.verdict.specs.Outcome.{AnswerTo}
 use Rattle.verdict.specs.declared.input.AfterRead.{AfterRead}
 use Rattle.verdict.specs.declared.outcome.Outcome.{Outcome}
 use Rattle.verdict.specs.declared.outcome.Outcome.the-variants.{Judged, ReadFailed}
 
--- Some bytes came, read after read, and this is the answer to them; where the last read has not said that the input
+-- Some bytes came, read after read, the buffer holds them all in order, and this is the answer to them; where the last read has not said that the input
 -- has ended, nothing is answered.
 pub record RunEnsures (text text' : Bytes) (s : List ℕ) (o o' : Bytes) (r : Outcome) : Type 0 where
   pub last : AfterRead
   pub reads : Reads text text' last
   pub cut : last .next ≢ End → r ≡ ReadFailed
   pub came : Bytes
+  pub holds : BufferHolds came text' (last .len)
   pub answer : AnswerTo r came (length text') s o o'
 
 -- the answer is inside the output

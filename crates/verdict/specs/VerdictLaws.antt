@@ -18,7 +18,7 @@ pub run-ensures : {text₀ text : Bytes} {s : List ℕ} {o o' : Bytes} {t : Afte
     → FinishEnsures text s o o' t r → RunEnsures text₀ text s o o' r
 run-ensures {t = t} u f =
     let v = reads-held u in
-    record { last = t; reads = u; cut = f .cut; came = v .came; answer = f .on (v .came) (v .holds) }
+    record { last = t; reads = u; cut = f .cut; came = v .came; holds = v .holds; answer = f .on (v .came) (v .holds) }
 
 pub run-shows : {text text' : Bytes} {s : List ℕ} {o o' : Bytes} {r : Outcome} → RunEnsures text text' s o o' r
     → ShowRequires r o'

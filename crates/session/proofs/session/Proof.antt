@@ -1,13 +1,19 @@
 use borrow.Author.Needs.{needs}
-use Rattle.session.specs.SessionLaws.{session-ensures}
+use Rattle.session.specs.SessionLaws.{session-start, session-ensures}
 use Rattle.session.proofs.session.Statement.{statement}
 use Rattle.session.proofs.session.Tie as tie
 
+receive-requires : tie.Need-receive-requires
+receive-requires c κs = (search (needs, session-start), search needs)
+
 returns : tie.Need-returns
-returns c = search (needs, session-ensures)
+returns c =
+    let receive = c .before .before .before .before .before .before .before .before .before .before .before .before .before .before .before .before in
+    let start = receive .before .before .before .before .before .before .before in
+    session-ensures (start .pre .0) (start .pre .1) (receive .receive .ensures) (c .before .before .before .before .before .before .finish .ensures)
 
 pub session-spec : {M : Type 1} → statement M
 session-spec =
     tie.close
-    (tie.spec (λ c κs. search needs) (λ c κs. search needs) (λ c. search needs) (λ c. search needs) (λ c. search needs)
+    (tie.spec receive-requires (λ c κs. search needs) (λ c. search needs) (λ c. search needs) (λ c. search needs)
     returns)
