@@ -97,7 +97,8 @@ module _ (d : ℕ) (xs : List Node) (c : Canonical d xs) where
           valid = record {
             small = p;
             within = omega (arith, v .within);
-            zero = λ y. q ∙ v .zero (weight-injective _ _ (v .small) (omega arith) (sym r ∙ rw y (weight-times-zero w)));
+            zero = λ y. q ∙ v .zero (weight-injective _ _ (v .small) (omega arith)
+                (sym r ∙ rw y (weight-times-zero w)));
           };
           from = subst (FreeBelow (suc k)) (ap (scale (inverseW (toWeight w))) (sym s) ∙ unscale (edgeIn ts e) nonzero)
               (free-below-scale (suc k) _ _ g);

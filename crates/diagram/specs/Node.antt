@@ -1,4 +1,5 @@
--- A node's record ("the places of its fields being the builder's"): node n has record n - 1. In normal form its low weight is 0 or 1.
+-- A node's record ("the places of its fields being the builder's"): node n has record n - 1. In normal form its low
+-- weight is 0 or 1.
 --   field 0   index + 256 · low weight + 512 · (high weight / 65536)
 --   field 1   low node             field 2   high weight % 65536          field 3   high node
 --   field 4   the unique table's head of bucket n - 1                     field 5   the next node of n's chain

@@ -102,7 +102,11 @@ writes-join k L H p f g = go (same L H) refl
   where
     go : (b : Bool) → same L H ≡ b → Writes (joined k L H) (joinCases b (joined k L H))
     go true e = record { puts = []; normal = tt; is = λ s. refl }
-    go false e = record { puts = normal (joined k L H) ∷ []; normal = (normal-joined k L H p f g e, tt); is = λ s. refl }
+    go false e = record {
+      puts = normal (joined k L H) ∷ [];
+      normal = (normal-joined k L H p f g e, tt);
+      is = λ s. refl;
+    }
 
 pub join-meaning : {d : ℕ} (k : ℕ) (L H : Tensor d) (s : Set d) → join k L H s .0 ≡ joined k L H
 unfolding join joinCases

@@ -1,7 +1,8 @@
 -- The field's weights, passed on to the layers above, which name no field.
 use mathlib.Core.Path.{_≡_, ap, sym, _∙_}
 use Prim.Native.Nat.{ℕ}
-pub use Rattle.field.specs.Weight.{modulus, Weight, toWeight, 0W, 1W, plusW, timesW, negateW, sameW, onesPower, inverseW}
+pub use Rattle.field.specs.Weight.{modulus, Weight, toWeight, 0W, 1W, plusW, timesW, negateW, sameW}
+pub use Rattle.field.specs.Weight.{onesPower, inverseW}
 pub use Rattle.field.specs.Weight.{eighthRoot, imaginaryUnit, rootTwo, inverseRootTwo, Nonzero}
 pub use Rattle.field.specs.Field.{Represents}
 pub use Rattle.field.specs.RingLaws.{plusW-comm, plusW-assoc, plusW-zero, timesW-comm, timesW-assoc, timesW-one}

@@ -29,7 +29,8 @@ pub struct Run {
 
 // The nodes as they were before a call that did not fit.
 fn refuse(store: &mut [u8], cache: &mut [u64], run: Run) -> Run
-    requires { ⌜ RollbackRequires (now cache) (now store) (run .state) × RegistersValid (run .state .count) (run .registers .all) ⌝ }
+    requires { ⌜ RollbackRequires (now cache) (now store) (run .state)
+        × RegistersValid (run .state .count) (run .registers .all) ⌝ }
     ensures { λ r. ⌜ Invariant (now (cache .exit)) (now (store .exit)) (r .state) (r .registers .all) ⌝ }
 {
     io::write_all(1, b"full\n");

@@ -14,7 +14,8 @@ ghost use Rattle.diagram.specs.Invariant.{Invariant};
 
 // The gate, contracted over the indices of m; register 1 has held it.
 fn contracted(store: &mut [u8], cache: &mut [u64], run: Run, g: Gate, m: u64) -> Run
-    requires { ⌜ Invariant (now cache) (now store) (run .state) (run .registers .all) × (QubitsInRange g × (m < masks)) ⌝ }
+    requires { ⌜ Invariant (now cache) (now store) (run .state) (run .registers .all)
+        × (QubitsInRange g × (m < masks)) ⌝ }
     ensures { λ r. ⌜ Invariant (now (cache .exit)) (now (store .exit)) (r .state) (r .registers .all) ⌝ }
 {
     let one = calls::gate(store, cache, run, 1, g);

@@ -31,7 +31,8 @@ const MIDDLE: u64 = 2;
 
 // Two gates, and their product over the middle.
 fn product(store: &mut [u8], cache: &mut [u64], run: Run, g: Gate, h: Gate) -> Run
-    requires { ⌜ Invariant (now cache) (now store) (run .state) (run .registers .all) × (QubitsInRange g × QubitsInRange h) ⌝ }
+    requires { ⌜ Invariant (now cache) (now store) (run .state) (run .registers .all)
+        × (QubitsInRange g × QubitsInRange h) ⌝ }
     ensures { λ r. ⌜ Invariant (now (cache .exit)) (now (store .exit)) (r .state) (r .registers .all) ⌝ }
 {
     let one = calls::gate(store, cache, run, 0, g);

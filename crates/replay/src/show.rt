@@ -39,7 +39,8 @@ fn line(store: &[u8], s: State, e: Edge)
 
 // Register i, if it is filled.
 pub fn register(store: &[u8], run: Run, i: usize)
-    requires { ⌜ Sound (now store) (run .state) × (RegistersValid (run .state .count) (run .registers .all) × (i < 16)) ⌝ }
+    requires { ⌜ Sound (now store) (run .state)
+        × (RegistersValid (run .state .count) (run .registers .all) × (i < 16)) ⌝ }
 {
     let s = run.state;
     let Held::Edge(e) = registers::get(run.registers, i) else {

@@ -39,7 +39,8 @@ not-two w f (Two a b) h = absurd (miss (0 ∷ 1 ∷ 2 ∷ 4 ∷ 5 ∷ []) 3 tt h
 not-two w f (Three a b c) h = refl
 not-two w f (Four a b c d) h = refl
 
-pub not-three : {A : Type 0} (w : A) (f : ℕ → ℕ → ℕ → A) (x : Args) → Among (0 ∷ 1 ∷ 2 ∷ 3 ∷ 5 ∷ []) x → w ≡ threeNumbers w f x
+pub not-three : {A : Type 0} (w : A) (f : ℕ → ℕ → ℕ → A) (x : Args) → Among (0 ∷ 1 ∷ 2 ∷ 3 ∷ 5 ∷ []) x → w
+    ≡ threeNumbers w f x
 unfolding byCount
 not-three w f Wrong h = refl
 not-three w f None h = refl
@@ -48,7 +49,8 @@ not-three w f (Two a b) h = refl
 not-three w f (Three a b c) h = absurd (miss (0 ∷ 1 ∷ 2 ∷ 3 ∷ 5 ∷ []) 4 tt h)
 not-three w f (Four a b c d) h = refl
 
-pub not-four : {A : Type 0} (w : A) (f : ℕ → ℕ → ℕ → ℕ → A) (x : Args) → Among (0 ∷ 1 ∷ 2 ∷ 3 ∷ 4 ∷ []) x → w ≡ fourNumbers w f x
+pub not-four : {A : Type 0} (w : A) (f : ℕ → ℕ → ℕ → ℕ → A) (x : Args) → Among (0 ∷ 1 ∷ 2 ∷ 3 ∷ 4 ∷ []) x → w
+    ≡ fourNumbers w f x
 unfolding byCount
 not-four w f Wrong h = refl
 not-four w f None h = refl
@@ -57,7 +59,8 @@ not-four w f (Two a b) h = refl
 not-four w f (Three a b c) h = refl
 not-four w f (Four a b c d) h = absurd (miss (0 ∷ 1 ∷ 2 ∷ 3 ∷ 4 ∷ []) 5 tt h)
 
-pub not-one-or-two : {A : Type 0} (w : A) (f : ℕ → A) (g : ℕ → ℕ → A) (x : Args) → Among (0 ∷ 1 ∷ 4 ∷ 5 ∷ []) x → w ≡ oneOrTwoNumbers w f g x
+pub not-one-or-two : {A : Type 0} (w : A) (f : ℕ → A) (g : ℕ → ℕ → A) (x : Args) → Among (0 ∷ 1 ∷ 4 ∷ 5 ∷ []) x → w
+    ≡ oneOrTwoNumbers w f g x
 unfolding byCount
 not-one-or-two w f g Wrong h = refl
 not-one-or-two w f g None h = refl

@@ -57,7 +57,8 @@ module _ {c s : List ℕ} {st : State} {rs : List Register} (p : Invariant c s s
 
   pub weight-times-node : (i : ℕ) → occupied (registerIn rs i) ≡ true
       → register-tensor i
-      ≡ some (scale (toWeight (registerIn rs i .edge .weight)) (tensorAt (nodeTensors s (st .count)) (registerIn rs i .edge .node)))
+      ≡ some (scale (toWeight (registerIn rs i .edge .weight))
+      (tensorAt (nodeTensors s (st .count)) (registerIn rs i .edge .node)))
   unfolding tensorOf edgeIn
   weight-times-node i q = rw (node-tensors s st) (filled-tensor i q)
 
@@ -102,7 +103,8 @@ module _ {c s : List ℕ} {st : State} {rs : List Register} (p : Invariant c s s
 
   pub same-exactly : (i j : ℕ) → i < registerCount → j < registerCount → (A B : Tensor indices)
       → register-tensor i ≡ some A → register-tensor j ≡ some B
-      → ((registerIn rs i .edge .weight ≡ registerIn rs j .edge .weight) × (registerIn rs i .edge .node ≡ registerIn rs j .edge .node)) ↔ Agree A B
+      → ((registerIn rs i .edge .weight ≡ registerIn rs j .edge .weight)
+      × (registerIn rs i .edge .node ≡ registerIn rs j .edge .node)) ↔ Agree A B
   same-exactly i j k l A B q r = (
     λ w. agree-exactly A B .0 (sym (is-tensor i k q) ∙ ap (tensorOf s st) (edge-eq (w .0) (w .1)) ∙ is-tensor j l r),
     λ w. one (edge-unique (p .sound) (valid i k q) (valid j l r) (is-tensor i k q ∙ agree-exactly A B .1 w
@@ -160,7 +162,13 @@ module _ {c : Capacity} {o : Bytes} {ls : List Bytes} {t : TallyRun indices} {s�
   each-line (line {r = r} {s' = s'} {o''} {r'} b l a) j p = elim (ℕ-discrete (r .lines) j) [
     | yes e ↦ subst (Between c o ls t) e (record {
       before = passes-point b;
-      after = record { store = s'; output = o''; result = r'; lines = l .lines; agrees = subst (λ n. Agrees s' o o'' r' (run c (length o) (take n ls) t)) (l .lines) a };
+      after = record {
+        store = s';
+        output = o'';
+        result = r';
+        lines = l .lines;
+        agrees = subst (λ n. Agrees s' o o'' r' (run c (length o) (take n ls) t)) (l .lines) a;
+      };
       one = l;
     })
     | no n ↦ each-line b j (omega (arith, l .lines))

@@ -84,7 +84,8 @@ pub rename-step-writes : {d : ℕ} (least : ℕ) (qs : List ℕ) (T : Tensor d) 
 unfolding renameStep renamedTensor
 rename-step-writes least [] T u f = writes-return T
 rename-step-writes least (q ∷ qs) T u f =
-    writes-bind (renameStep qs) (low-known least q qs T u f) (rename-step-writes (suc q) qs (renameDown (3 * q + 2) T) (u .2) (lowered-free least q qs T u f))
+    writes-bind (renameStep qs) (low-known least q qs T u f)
+    (rename-step-writes (suc q) qs (renameDown (3 * q + 2) T) (u .2) (lowered-free least q qs T u f))
 
 pub rename-step-grows : {d : ℕ} (least : ℕ) (qs : List ℕ) (T : Tensor d) → Rising d least qs → AllFree qs T
     → (s : Set d)
@@ -95,7 +96,8 @@ pub contract-step-grows : {d : ℕ} (qs : List ℕ) (T A : Tensor d) → Rising 
     → PrefixOf s (contractStep qs T A s .1)
 unfolding contractStep _>>=_
 contract-step-grows qs T A u s =
-    prefix-trans (cont-grows A T (bits (middles qs)) s) (rename-step-grows 0 qs (cont A T (bits (middles qs)) s .0) u (cont-all-free qs A T s u) _)
+    prefix-trans (cont-grows A T (bits (middles qs)) s)
+    (rename-step-grows 0 qs (cont A T (bits (middles qs)) s .0) u (cont-all-free qs A T s u) _)
 
 -- the tensor of a step's edge is what the step answers
 answered : {c' s s' : List ℕ} {st t : State} {f : Step indices} {e : Edge}
@@ -144,7 +146,8 @@ module _ {p q : ℕ} {x : Qubits} {T : Tensor indices} (e : x ≡ Two p q) (h : 
     unfolding renameStep _>>=_
     renamed-full f =
         rw e (cached-full-more (renameStep (p ∷ q ∷ []) T) (cached-at (low (3 * p + 2) T) m w f)
-        (rename-step-grows (suc p) (q ∷ []) (low (3 * p + 2) T (setOf s st) .0) (two .rising .2) (second-free (setOf s st)) _))
+        (rename-step-grows (suc p) (q ∷ []) (low (3 * p + 2) T (setOf s st) .0) (two .rising .2)
+        (second-free (setOf s st)) _))
 
     module _ {y : Edge} {t : State} (f : m ≡ outcome.Edge y t) where
       first : RefinesCached c₁ s s₁ st (low (3 * p + 2) T) (outcome.Edge y t)
@@ -160,7 +163,8 @@ module _ {p q : ℕ} {x : Qubits} {T : Tensor indices} (e : x ≡ Two p q) (h : 
           → RefinesCached c₂ s s₂ st (renameStep (qubitList x) T) r
       unfolding renameStep _>>=_ return
       renamed-two c₂ s₂ r v =
-          rw e (cached-then c₂ s₂ (renameStep (p ∷ q ∷ []) T) (low (3 * q + 2) (tensorOf s₁ t y)) r first (rw (first .step .is)) v)
+          rw e (cached-then c₂ s₂ (renameStep (p ∷ q ∷ []) T) (low (3 * q + 2) (tensorOf s₁ t y)) r first
+          (rw (first .step .is)) v)
 
 -- the contraction, and then the fresh indices
 
@@ -195,7 +199,8 @@ module _ {m : ℕ} (x : Qubits) (k : m ≡ middles (qubitList x)) (u : Rising in
           → RefinesCached c₂ s s₂ st (contractStep (qubitList x) T A) r
       unfolding contractStep _>>=_
       contracted-works c₂ s₂ r v =
-          cached-then c₂ s₂ (contractStep (qubitList x) T A) (renameStep (qubitList x) (tensorOf s₁ t y)) r met (rw (← over, met .step .is)) v
+          cached-then c₂ s₂ (contractStep (qubitList x) T A) (renameStep (qubitList x) (tensorOf s₁ t y)) r met
+          (rw (← over, met .step .is)) v
 
 -- the gate's tensor, and then the others
 
@@ -212,7 +217,8 @@ module _ {c s : List ℕ} {st : State} {x : Edge} (h : OperationRequires c s st 
   unfolding applyStep _>>=_
   apply-full f =
       cached-full-more (applyStep g (tensorOf s st x)) (cached-at (build (gateTensor indices g)) n built f)
-      (contract-step-grows (qubits g) (tensorOf s st x) _ (gate-rising indices mostQubits g (omega (arith, indices-count)) p) _)
+      (contract-step-grows (qubits g) (tensorOf s st x) _
+      (gate-rising indices mostQubits g (omega (arith, indices-count)) p) _)
 
   module _ {a : Edge} {t : State} (f : n ≡ outcome.Edge a t) where
     built-done : RefinesCached c s s₁ st (build (gateTensor indices g)) (outcome.Edge a t)
@@ -231,5 +237,6 @@ module _ {c s : List ℕ} {st : State} {x : Edge} (h : OperationRequires c s st 
         → RefinesCached c₂ s s₂ st (applyStep g (tensorOf s st x)) r
     unfolding applyStep _>>=_
     apply-works c₂ s₂ r v =
-        cached-then c₂ s₂ (applyStep g (tensorOf s st x)) (contractStep (qubitList qs) (tensorOf s₁ t x) (tensorOf s₁ t a)) r built-done
+        cached-then c₂ s₂ (applyStep g (tensorOf s st x))
+        (contractStep (qubitList qs) (tensorOf s₁ t x) (tensorOf s₁ t a)) r built-done
         (rw (built-done .step .is, o .is, tensor-kept s s₁ st t (built-done .step .grown) (h .left))) v

@@ -88,7 +88,8 @@ call-ranged word.Cont args =
     on-four _ (λ d a b m. on-register d _ (λ p. on-register a _ (λ q. on-register b _ (λ r.
     on-within m 0 lastMask _ (λ l h. (p, (q, (r, omega arith)))))))) args
 call-ranged word.Low args =
-    on-three _ (λ d a k. on-register d _ (λ p. on-register a _ (λ q. on-within k 1 lastIndex _ (λ l h. (p, (q, (l, h))))))) args
+    on-three _ (λ d a k. on-register d _ (λ p. on-register a _
+    (λ q. on-within k 1 lastIndex _ (λ l h. (p, (q, (l, h))))))) args
 call-ranged word.Drop args = on-one _ (λ a. on-register a _ (λ p. p)) args
 call-ranged word.Collect args =
     by-count Ranged malformed Collect _ _ _ _ tt tt (λ a. tt) (λ a b. tt) (λ a b c. tt) (λ a b c d. tt) args

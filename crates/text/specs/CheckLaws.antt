@@ -54,8 +54,9 @@ two-item n p q name =
 numbers-placed : (n : ℕ) (name : Bytes) (args : Args) → PlacedItem n (gateItemOf n name args)
 unfolding gateItemOf
 numbers-placed n name args =
-    by-count (PlacedItem n) _ _ (λ q. oneQubitItem n q (oneQubit name q)) (λ p q. twoQubitItem n p q (twoQubits name p q)) _ _ tt tt
-    (λ q. one-item n q name) (λ p q. two-item n p q name) (λ a b c. tt) (λ a b c d. tt) args
+    by-count (PlacedItem n) _ _ (λ q. oneQubitItem n q (oneQubit name q))
+    (λ p q. twoQubitItem n p q (twoQubits name p q)) _ _ tt tt (λ q. one-item n q name) (λ p q. two-item n p q name)
+    (λ a b c. tt) (λ a b c d. tt) args
 
 fields-placed : (n : ℕ) (fs : List Bytes) → PlacedItem n (gateItemFields n fs)
 unfolding gateItemFields
@@ -109,7 +110,8 @@ header-ranged (word ∷ more) = go (sameBytes word (bytes "lines"))
     go : (t : Bool) → RangedHeader (cond t (headerNumbers (numbers mostDigits None more)) Bad)
     go true =
         by-count RangedHeader Bad Bad (λ n. cond (leb 1 n && leb n mostQubits) (Of n) Bad) _ _ _ tt tt
-        (λ n. number n (leb 1 n) (leb n mostQubits) refl refl) (λ a b. tt) (λ a b c. tt) (λ a b c d. tt) (numbers mostDigits None more)
+        (λ n. number n (leb 1 n) (leb n mostQubits) refl refl) (λ a b. tt) (λ a b c. tt) (λ a b c d. tt)
+        (numbers mostDigits None more)
     go false = tt
 
 pub header-read : {line : Bytes} {r : Header} → r ≡ headerOf line → HeaderRead line r

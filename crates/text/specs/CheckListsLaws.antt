@@ -25,7 +25,11 @@ unfolding items
 items-next n s a {i} {more} e = elim (decLt a (length s)) [ yes h ↦ there h | no h ↦ absurd (none (omega arith)) ]
   where
     there : a < length s → NextItem n s a i more
-    there h = record { inside = h; here = λ r. head-same (rw (lines-first h r) at e); on = λ r. tail-same (rw (lines-first h r) at e) }
+    there h = record {
+      inside = h;
+      here = λ r. head-same (rw (lines-first h r) at e);
+      on = λ r. tail-same (rw (lines-first h r) at e);
+    }
 
     none : length s ≤ a → ⊥
     none h = let f : [] ≡ i ∷ more = rw (lines-none s a h) at e in let z : _≡_ {A = ℕ} 0 1 = cc in omega arith
@@ -60,8 +64,8 @@ first-items : (n at : ℕ) (ls : List Bytes) → First n (firstList n at ls) (it
 unfolding items gateItems firstList firstItem withFirst
 first-items n at [] = tt
 first-items n at (line ∷ ls) =
-    go (itemOf n line) (firstList n (at + 1) ls) (secondList n (at + 1) ls) (first-items n (at + 1) ls) (second-items n (at + 1) ls)
-    (second-no-first n (at + 1) ls)
+    go (itemOf n line) (firstList n (at + 1) ls) (secondList n (at + 1) ls) (first-items n (at + 1) ls)
+    (second-items n (at + 1) ls) (second-no-first n (at + 1) ls)
   where
     go : (i : Item) (r q : Reading) → First n r (items n ls) → Second n q (items n ls) → NoFirst q
         → First n (firstItem i at r q) (i ∷ items n ls)
@@ -86,7 +90,10 @@ pub text-items : {s : Bytes} {n e : ℕ} {gs hs : List Gate} → readText s ≡ 
     → items n (lines (drop (e + 1) s)) ≡ gateItems gs ++ (item.Parting ∷ gateItems hs)
 unfolding readText readLines afterHeader lines
 text-items {s} {n} {e} {gs} {hs} t r =
-    elim (decLt 0 (length s)) [ yes h ↦ there (headerOf (part s 0 e)) (rw (lines-first h r) at t) | no h ↦ absurd (none (omega arith)) ]
+    elim (decLt 0 (length s)) [
+      | yes h ↦ there (headerOf (part s 0 e)) (rw (lines-first h r) at t)
+      | no h ↦ absurd (none (omega arith))
+    ]
   where
     ls : List Bytes
     ls = lines (drop (e + 1) s)

@@ -80,8 +80,10 @@ covered-collect : {d : ℕ} (f : List (Tensor d)) (s : Set d) (l : List (Option 
 unfolding filled member
 covered-collect f s [] c h = tt
 covered-collect f s (none ∷ l) c h = covered-collect f s l c h
-covered-collect f s (some T ∷ l) c h =
-    (collect-covers f s T (h T (rw (same-refl T))) (c .0), covered-collect f s l (c .1) (λ U e. h U (or-right (same U T) (member U (filled l)) e)))
+covered-collect f s (some T ∷ l) c h = (
+  collect-covers f s T (h T (rw (same-refl T))) (c .0),
+  covered-collect f s l (c .1) (λ U e. h U (or-right (same U T) (member U (filled l)) e)),
+)
 
 -- the pieces of a call
 
@@ -93,11 +95,15 @@ module _ {d : ℕ} (c : Capacity) (t : Tally d) (k : Complete t) where
     where
       go : (b : Bool)
           → Complete
-          (cond b (accept (record { nodes = f (t .nodes) .1; registers = set (t .registers) r (some (f (t .nodes) .0)) })) (refuse Full t) .1)
+          (cond b (accept (record {
+            nodes = f (t .nodes) .1;
+            registers = set (t .registers) r (some (f (t .nodes) .0));
+          })) (refuse Full t) .1)
       go true = record {
         normal = a .normal (k .normal);
         covered =
-            covered-set (f (t .nodes) .1) (t .registers) r (f (t .nodes) .0) (a .covered) (covered-grown (t .registers) (a .grown) (k .covered));
+            covered-set (f (t .nodes) .1) (t .registers) r (f (t .nodes) .0) (a .covered)
+            (covered-grown (t .registers) (a .grown) (k .covered));
       }
       go false = k
 
@@ -116,15 +122,21 @@ module _ {d : ℕ} (c : Capacity) (t : Tally d) (k : Complete t) where
   pub answer-complete : (x : Call) → LowBelow d x → Complete (answer c x t .1)
   unfolding answer accept refuse return
   answer-complete (call.Put r w) i =
-      settle-complete r (return (constant d (toWeight w))) (record { grown = prefix-refl (t .nodes); normal = λ h. h; covered = covers-constant (t .nodes) (toWeight w) })
+      settle-complete r (return (constant d (toWeight w))) (record {
+        grown = prefix-refl (t .nodes);
+        normal = λ h. h;
+        covered = covers-constant (t .nodes) (toWeight w);
+      })
   answer-complete (call.Gate r g) i =
       settle-complete r (build (gateTensor d g)) (build-set-after (t .nodes) (gateTensor d g))
   answer-complete (call.Unit r n) i =
       settle-complete r (build (unitTensor d n)) (build-set-after (t .nodes) (unitTensor d n))
   answer-complete (call.Add r a b) i =
-      register-complete a _ (λ A p. register-complete b _ (λ B q. settle-complete r (sum A B) (sum-set-after (t .nodes) A B p q)))
+      register-complete a _ (λ A p. register-complete b _
+      (λ B q. settle-complete r (sum A B) (sum-set-after (t .nodes) A B p q)))
   answer-complete (call.Cont r a b m) i =
-      register-complete a _ (λ A p. register-complete b _ (λ B q. settle-complete r (cont A B (bits m)) (cont-set-after (t .nodes) A B (bits m))))
+      register-complete a _ (λ A p. register-complete b _
+      (λ B q. settle-complete r (cont A B (bits m)) (cont-set-after (t .nodes) A B (bits m))))
   answer-complete (call.Low r a j) i = register-complete a _ (λ A p. lowered r j A i p (depends (j - 1) A) refl)
     where
       lowered : (r j : ℕ) (A : Tensor d) → (1 ≤ j) × (j < d) → Covers (t .nodes) A → (b : Bool) → depends (j - 1) A ≡ b
@@ -133,8 +145,14 @@ module _ {d : ℕ} (c : Capacity) (t : Tally d) (k : Complete t) where
       lowered r j A i p false e =
           settle-complete r (low j A) (low-set-after (t .nodes) j A (i .0) (i .1) (depends-free (j - 1) A e) p)
   answer-complete (call.Drop a) i =
-      register-complete a _ (λ A p. record { normal = k .normal; covered = covered-clear (t .nodes) (t .registers) a (k .covered) })
-  answer-complete call.Collect i = record { normal = normal-set-collect (filled (t .registers)) (t .nodes) (k .normal); covered = covered-collect (filled (t .registers)) (t .nodes) (t .registers) (k .covered) (λ T e. e) }
+      register-complete a _ (λ A p. record {
+        normal = k .normal;
+        covered = covered-clear (t .nodes) (t .registers) a (k .covered);
+      })
+  answer-complete call.Collect i = record {
+    normal = normal-set-collect (filled (t .registers)) (t .nodes) (k .normal);
+    covered = covered-collect (filled (t .registers)) (t .nodes) (t .registers) (k .covered) (λ T e. e);
+  }
   answer-complete (call.At a v) i = register-complete a _ (λ A p. k)
   answer-complete (call.Cmp a b) i = register-complete a _ (λ A p. register-complete b _ (λ B q. k))
   answer-complete (call.Refused r) i = k
@@ -175,7 +193,8 @@ module _ (c : Capacity) (room : ℕ) where
   unfolding run withAnswer stoppedRun
   lines-complete [] r k = k
   lines-complete (l ∷ ls) r k =
-      go (leb (length (r .output) + answerRoom) room) (lines-complete ls (withAnswer r (answer c (readLine l) (r .tally))) (line-complete l (r .tally) k))
+      go (leb (length (r .output) + answerRoom) room)
+      (lines-complete ls (withAnswer r (answer c (readLine l) (r .tally))) (line-complete l (r .tally) k))
     where
       go : (b : Bool) → Complete (run c room ls (withAnswer r (answer c (readLine l) (r .tally))) .tally)
           → Complete (cond b (run c room ls (withAnswer r (answer c (readLine l) (r .tally)))) (stoppedRun r) .tally)

@@ -11,7 +11,8 @@ use Rattle.diagram.specs.RestoreLaws.{full-rollback}
 use Rattle.diagram.specs.Registers.{emptyRegisters, holds, holdsAll, filledWith, RegistersValid}
 use Rattle.diagram.specs.RegistersLaws.{holds-set}
 use Rattle.diagram.specs.Invariant.{Invariant}
-use Rattle.diagram.specs.InvariantLaws.{start-set, invariant-start, holds-after, invariant-rollback, invariant-cached, refines-cached}
+use Rattle.diagram.specs.InvariantLaws.{start-set, holds-after, refines-cached}
+use Rattle.diagram.specs.InvariantLaws.{invariant-start, invariant-rollback, invariant-cached}
 use Rattle.diagram.specs.Tensor.{indices, constant}
 use Rattle.diagram.specs.Tally.{Step, return}
 use Rattle.diagram.specs.Node.{capacity}
@@ -56,7 +57,14 @@ settle-done : {s s' : List ℕ} {e : Engine} {t : State} {rs : Registers} (d : �
 unfolding settle accept nodeCount tallyOf holds tensorOf
 settle-done {s} {s'} {e} {t} d {x = x} g w q =
     let fit : length (setOf s' t) ≤ capacity s = rw (w .is) at (refines-fits w) in
-    rw (w .is, le-leb _ _ fit, set-length s' t, q, holds-set (setOf s' t) (e .registers .all) d (filledWith x), holds-after s s' (e .state) t g (w .grown))
+    rw (
+      w .is,
+      le-leb _ _ fit,
+      set-length s' t,
+      q,
+      holds-set (setOf s' t) (e .registers .all) d (filledWith x),
+      holds-after s s' (e .state) t g (w .grown),
+    )
 
 -- a step that did not fit: the nodes are as before it, and the registers
 settle-over : {s s₁ : List ℕ} (s' : List ℕ) {e : Engine} (n : Engine) (d : ℕ) {f : Step indices}
@@ -153,4 +161,8 @@ module _ {c s c' s' : List ℕ} {e : Engine} {d : ℕ} {r : Reply} (p : EngineIn
       → SetsRegister c' s s' e d (return (constant indices (toWeight w))) r
   unfolding return
   sets-register-constant {w} small h =
-      h .on c s _ p (record { step = refines-stays (p .sound) (constant-valid small) (ap (λ T. (T, setOf s (e .state))) (sym (constant-tensor w (p .sound)))); cache = p .cache })
+      h .on c s _ p (record {
+        step = refines-stays (p .sound) (constant-valid small)
+            (ap (λ T. (T, setOf s (e .state))) (sym (constant-tensor w (p .sound))));
+        cache = p .cache;
+      })

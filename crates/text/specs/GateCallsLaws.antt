@@ -88,8 +88,10 @@ low-calls-perform c line r least (q ∷ qs) T t more u f i h e =
     let free = low-free least q qs T u f (t .nodes) in
     let end = renameStep qs (p .0) (p .1) in
     rw (h, n, free-depends (3 * q + 1) T (f .0))
-    (settle-then c line r r p end t t (perform c (atLine line (lowCalls r qs) ++ more)) (perform c more) (prefix-length (rename-step-grows (suc q) qs (p .0) (u .2) free (p .1)))
-    (λ e. low-calls-perform c line r (suc q) qs (p .0) (settledTally r p t) more (u .2) free (rw length-set i) (getD-set-same (t .registers) r (some (p .0)) none i) e
+    (settle-then c line r r p end t t (perform c (atLine line (lowCalls r qs) ++ more)) (perform c more)
+    (prefix-length (rename-step-grows (suc q) qs (p .0) (u .2) free (p .1)))
+    (λ e. low-calls-perform c line r (suc q) qs (p .0) (settledTally r p t) more (u .2) free (rw length-set i)
+    (getD-set-same (t .registers) r (some (p .0)) none i) e
     ∙ settle-again c line r p end t (perform c more)))
 
 -- `drop 2` and `collect`, once register r is settled
@@ -143,8 +145,10 @@ contract-step-performs c line r qs T A t more small sixteen holds gate u =
     let rest = dropped line more in
     let inside : r < length (t .registers) = omega arith in
     rw (gate, holds)
-    (settle-then c line r r p end t t (perform c (atLine line (lowCalls r qs) ++ rest)) (λ t. perform c more (dropCollect t)) (prefix-length (rename-step-grows 0 qs (p .0) u free (p .1)))
-    (λ e. low-calls-perform c line r 0 qs (p .0) (settledTally r p t) rest u free (rw length-set inside) (getD-set-same (t .registers) r (some (p .0)) none inside) e
+    (settle-then c line r r p end t t (perform c (atLine line (lowCalls r qs) ++ rest))
+    (λ t. perform c more (dropCollect t)) (prefix-length (rename-step-grows 0 qs (p .0) u free (p .1)))
+    (λ e. low-calls-perform c line r 0 qs (p .0) (settledTally r p t) rest u free (rw length-set inside)
+    (getD-set-same (t .registers) r (some (p .0)) none inside) e
     ∙ settle-again c line r p end t (perform c rest)
     ∙ settle-drop c line r A end t more small gate))
 
@@ -166,7 +170,8 @@ gate-performs {d} c line r g T t more small sixteen holds rising =
     let l = t .registers in
     let A = some (p .0) in
     rw (gate-calls line r g more)
-    (settle-then c line 2 r p end t t _ (λ t. perform c more (dropCollect t)) (prefix-length (contract-step-grows (qubits g) T (p .0) rising (p .1)))
+    (settle-then c line 2 r p end t t _ (λ t. perform c more (dropCollect t))
+    (prefix-length (contract-step-grows (qubits g) T (p .0) rising (p .1)))
     (λ e. contract-step-performs c line r (qubits g) T (p .0) (settledTally 2 p t) more small (length-set l 2 A
     ∙ sixteen)
     (getD-set-other l 2 r A none (λ e. omega arith) ∙ holds) (getD-set-same l 2 A none (omega arith)) rising
@@ -203,4 +208,5 @@ gate-empty {d} c line r g t more small empty =
     let p = build (gateTensor d g) (t .nodes) in
     let rest = atLine line (lowCalls r (qubits g)) ++ dropped line more in
     let still = getD-set-other (t .registers) 2 r (some (p .0)) none (λ e. omega arith) ∙ empty in
-    rw (gate-calls line r g more) (ruling-settle c line 2 p t _ (cont-empty c line r (middles (qubits g)) (settledTally 2 p t) rest still))
+    rw (gate-calls line r g more) (ruling-settle c line 2 p t _
+    (cont-empty c line r (middles (qubits g)) (settledTally 2 p t) rest still))

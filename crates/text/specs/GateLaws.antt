@@ -43,15 +43,16 @@ one-ranged d q name h =
 two-ranged : (d p q : ℕ) (name : Bytes) → d < registerCount → Ranged (twoQubitCall d p q (twoQubits name p q))
 two-ranged d p q name h =
     known-placed Ranged _ _ tt (two-placed 8 name p q)
-    (λ g x. on-within p 0 lastQubit _ (λ l m. on-within q 0 lastQubit _ (λ l' m'. on-apart p q _ (λ e. (h, x (omega arith, (omega arith, e)))))))
+    (λ g x. on-within p 0 lastQubit _ (λ l m. on-within q 0 lastQubit _
+    (λ l' m'. on-apart p q _ (λ e. (h, x (omega arith, (omega arith, e)))))))
 
 gate-ranged : (d : Number) (name : Bytes) (qubits : Args) → Ranged (gateCallOf d name qubits)
 gate-ranged number.Malformed name qubits = tt
 gate-ranged (number.Of d) name qubits =
-    by-count Ranged _ _ (λ q. checkRegister d (oneQubitCall d q (oneQubit name q))) (λ p q. checkRegister d (twoQubitCall d p q (twoQubits name p q))) _ _ tt tt
-    (λ q. on-register d _ (one-ranged d q name))
-    (λ p q. on-register d _ (two-ranged d p q name))
-    (λ a b c. tt) (λ a b c e. tt) qubits
+    by-count Ranged _ _ (λ q. checkRegister d (oneQubitCall d q (oneQubit name q)))
+    (λ p q. checkRegister d (twoQubitCall d p q (twoQubits name p q))) _ _ tt tt
+    (λ q. on-register d _ (one-ranged d q name)) (λ p q. on-register d _ (two-ranged d p q name)) (λ a b c. tt)
+    (λ a b c e. tt) qubits
 
 pub gate-fields-ranged : (fs : List Bytes) → Ranged (gateCallFields fs)
 unfolding gateCallFields

@@ -137,7 +137,8 @@ gate-masked n g p q =
 gate-beyond : (n : ℕ) (g : Gate) → Placed n g → (k : ℕ) → 3 * n ≤ k → bits (middles (qubits g)) k ≡ false
 gate-beyond n g p k l =
     mask (3 * n) 0 (qubits g) (gate-rising (3 * n) n g (omega arith) p) k
-    ∙ rw (on-above n (k / 3) (qubits g) (rising-below n 0 (qubits g) (gate-rising (3 * n) n g (omega arith) p)) (omega arith)) (and-false (eqb (k % 3) 1))
+    ∙ rw (on-above n (k / 3) (qubits g) (rising-below n 0 (qubits g) (gate-rising (3 * n) n g (omega arith) p))
+    (omega arith)) (and-false (eqb (k % 3) 1))
 
 pub settings-thirds : (n : ℕ) (S U : Bits) (h k : Bits → Weight) (R : Bits → BasisState → Type 0)
     → ((q : ℕ) (b : Bool) (x : Bits) (m : BasisState) → R x m → R (assign (suc (3 * q)) b x) (assign q b m))
@@ -151,7 +152,8 @@ settings-thirds (suc n) S U h k R on-set same masked x m r =
     rw three (rw (a .fresh-out, a .middle-in, a .input-out) (go (U n) (settings-thirds n S U h k R on-set same masked)))
   where
     go : (b : Bool) → ((x : Bits) (m : BasisState) → R x m → settings (3 * n) S h x ≡ settings n U k m)
-        → cond b (plusW (settings (3 * n) S h (assign (suc (3 * n)) false x)) (settings (3 * n) S h (assign (suc (3 * n)) true x))) (settings (3 * n) S h x)
+        → cond b (plusW (settings (3 * n) S h (assign (suc (3 * n)) false x))
+        (settings (3 * n) S h (assign (suc (3 * n)) true x))) (settings (3 * n) S h x)
         ≡ cond b (plusW (settings n U k (assign n false m)) (settings n U k (assign n true m))) (settings n U k m)
     go true ih = ap₂ plusW (ih _ _ (on-set n false x m r)) (ih _ _ (on-set n true x m r))
     go false ih = ih x m r
@@ -196,7 +198,8 @@ pub gate-applied : {d : ℕ} (n : ℕ) (g : Gate) (T : Tensor d) (f : Bits) → 
 unfolding appliedTensor contractedTensor
 gate-applied {d} n g T f p l =
     let S = bits (middles (qubits g)) in
-    at-renamed n (qubits g) (sumOver S (times (gateTensor d g) T)) f l (rising-below n 0 (qubits g) (gate-rising (3 * n) n g (omega arith) p))
+    at-renamed n (qubits g) (sumOver S (times (gateTensor d g) T)) f l
+    (rising-below n 0 (qubits g) (gate-rising (3 * n) n g (omega arith) p))
     ∙ at-sumOver S (times (gateTensor d g) T) (raised (qubits g) f)
     ∙ ap (λ h. settings d S h (raised (qubits g) f)) (fun-ext (λ x. at-times (gateTensor d g) T x
     ∙ ap (λ w. timesW w (at T x)) (gate-at d g (placed-fits d n g l p) x)))

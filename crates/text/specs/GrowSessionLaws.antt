@@ -106,7 +106,10 @@ module _ {d : ℕ} (m : ℕ) where
       let T = f (t .nodes) .0 in
       let s = f (t .nodes) .1 in
       rw (h .is (t .nodes), length-grow m s, grow-set (t .registers) r (some T))
-      (cond-grow (fits c (length s)) (answers.Ok (length s), record { nodes = s; registers = set (t .registers) r (some T) }) (answers.No Full, t))
+      (cond-grow (fits c (length s)) (
+        answers.Ok (length s),
+        record { nodes = s; registers = set (t .registers) r (some T) },
+      ) (answers.No Full, t))
 
   grow-holding : (o : Option (Tensor d)) (t : Tally d) (F : Tensor d → TallyReply d)
       (G : Tensor (deeper d m) → TallyReply (deeper d m))
@@ -140,7 +143,8 @@ module _ {d : ℕ} (m : ℕ) where
       → answer c (call.Add r a b) (growTally m t) ≡ growReply m (answer c (call.Add r a b) t)
   unfolding answer growTally
   grow-add c r a b t =
-      grow-register t a _ _ (λ A. grow-register t b _ _ (λ B. grow-settle c r (sum A B) (sum (grow m A) (grow m B)) t (sum-grow m A B)))
+      grow-register t a _ _ (λ A. grow-register t b _ _
+      (λ B. grow-settle c r (sum A B) (sum (grow m A) (grow m B)) t (sum-grow m A B)))
 
   grow-cont : (c : Capacity) (r a b x : ℕ) (t : Tally d) → MembersBelow d (bits x)
       → answer c (call.Cont r a b x) (growTally m t) ≡ growReply m (answer c (call.Cont r a b x) t)
@@ -167,7 +171,8 @@ module _ {d : ℕ} (m : ℕ) where
   unfolding answer growTally growRegister
   grow-drop c a t =
       grow-register t a _ _
-      (λ A. rw (grow-set (t .registers) a none) (grow-accept (record { nodes = t .nodes; registers = set (t .registers) a none })))
+      (λ A. rw (grow-set (t .registers) a none) (grow-accept
+      (record { nodes = t .nodes; registers = set (t .registers) a none })))
 
   grow-collect : (c : Capacity) (t : Tally d)
       → answer c call.Collect (growTally m t) ≡ growReply m (answer c call.Collect t)
@@ -186,16 +191,19 @@ module _ {d : ℕ} (m : ℕ) where
       → answer c (call.Cmp a b) (growTally m t) ≡ growReply m (answer c (call.Cmp a b) t)
   unfolding answer
   grow-cmp c a b t =
-      grow-register t a _ _ (λ A. grow-register t b _ _ (λ B. ap (λ x. (comparison x, growTally m t)) (grow-compared m A B)))
+      grow-register t a _ _ (λ A. grow-register t b _ _
+      (λ B. ap (λ x. (comparison x, growTally m t)) (grow-compared m A B)))
 
   grow-answer : (c : Capacity) (x : Call) (t : Tally d) → touches d x ≡ true
       → answer c x (growTally m t) ≡ growReply m (answer c x t)
   unfolding touches
   grow-answer c (call.Put r w) t e = grow-put c r w t
   grow-answer c (call.Gate r g) t e =
-      unfold answer growTally in grow-build c r (gateTensor d g) (gateTensor (deeper d m) g) t (gate-grow m d g (gate-fits d g e))
+      unfold answer growTally in grow-build c r (gateTensor d g) (gateTensor (deeper d m) g) t
+      (gate-grow m d g (gate-fits d g e))
   grow-answer c (call.Unit r n) t e =
-      unfold answer growTally in grow-build c r (unitTensor d n) (unitTensor (deeper d m) n) t (unit-grow m d n (leb-true (3 * n) d e))
+      unfold answer growTally in grow-build c r (unitTensor d n) (unitTensor (deeper d m) n) t
+      (unit-grow m d n (leb-true (3 * n) d e))
   grow-answer c (call.Add r a b) t e = grow-add c r a b t
   grow-answer c (call.Cont r a b x) t e = grow-cont c r a b x t (mask-below d x (ltb-true x (2 ^ d) e))
   grow-answer c (call.Low r a k) t e = grow-low c r a k t (ltb-true k d e)
@@ -225,7 +233,8 @@ module _ {d : ℕ} (m : ℕ) where
   grow-perform c [] t e = refl
   grow-perform c ((line, x) ∷ xs) t e =
       rw (grow-answer c x t (and-left _ _ e))
-      (grow-continue line (answer c x t) (perform c xs) (perform c xs) (λ t. grow-perform c xs t (and-right (touches d x) (allTouch d xs) e)))
+      (grow-continue line (answer c x t) (perform c xs) (perform c xs)
+      (λ t. grow-perform c xs t (and-right (touches d x) (allTouch d xs) e)))
 
   grow-stopped : (r : TallyRun d) → stoppedRun (growRun m r) ≡ growRun m (stoppedRun r)
   unfolding stoppedRun growRun
@@ -262,7 +271,8 @@ pub session-grows : (d m : ℕ) (c : Capacity) (room : ℕ) (text : List ℕ) �
     → session (deeper d m) c room text ≡ growRun m (session d c room text)
 unfolding session emptyRun growRun
 session-grows d m c room text e =
-    rw (← grow-start d m) (grow-run m c room (lines text) (record { code = 0; answered = 0; output = []; tally = emptyTally }) e)
+    rw (← grow-start d m) (grow-run m c room (lines text)
+    (record { code = 0; answered = 0; output = []; tally = emptyTally }) e)
 
 ruling-grows : {d : ℕ} (m : ℕ) (c : Capacity) (x : PerformResult d) → rulingAtEnd c (growResult m x) ≡ rulingAtEnd c x
 unfolding rulingAtEnd touches
@@ -275,7 +285,8 @@ ruling-of-reading-grows : (d m : ℕ) (c : Capacity) (r : Reading) → readingTo
 unfolding rulingOfReading readingTouches
 ruling-of-reading-grows d m c (fault f line) e = refl
 ruling-of-reading-grows d m c (lists n gs hs) e =
-    rw (← grow-start d m, grow-perform m c (sessionCalls n gs hs) emptyTally e) (ruling-grows m c (perform c (sessionCalls n gs hs) emptyTally))
+    rw (← grow-start d m, grow-perform m c (sessionCalls n gs hs) emptyTally e)
+    (ruling-grows m c (perform c (sessionCalls n gs hs) emptyTally))
 
 -- With more indices a verdict whose session touches only the lowest is the same.
 pub verdict-result-grows : (d m : ℕ) (c : Capacity) (room : ℕ) (text : List ℕ) → readingTouches d (readText text) ≡ true

@@ -79,7 +79,8 @@ module _ {l : GateList} {s c' s' : List ℕ} {a x : ListState} (w : ListEnsures 
       ≡ rulingFromState (most (capacity s)) (listCalls (l .register) (l .qubits) (a .line + 1) hs) s a
   through hs rest ls =
       sym (w .performs hs rest ls .is [])
-      ∙ ap (λ calls. rulingFromState (most (capacity s)) calls s a) (append-nil (listCalls (l .register) (l .qubits) (a .line + 1) hs))
+      ∙ ap (λ calls. rulingFromState (most (capacity s)) calls s a)
+      (append-nil (listCalls (l .register) (l .qubits) (a .line + 1) hs))
 
   pub second-refused : x .refused ≡ true → SecondEnsures l s a (No Full (x .line))
   second-refused q =
@@ -99,7 +100,8 @@ unfolding readText readLines
 text-some text {n} {gs} {hs} t = elim (decLt 0 (length text)) [ yes h ↦ h | no h ↦ absurd (none (omega arith)) ]
   where
     none : length text ≤ 0 → ⊥
-    none h = let f : readLines [] ≡ lists n gs hs = rw (lines-none text 0 h) at t in let z : _≡_ {A = ℕ} 0 1 = cc in omega arith
+    none h = let f : readLines [] ≡ lists n gs hs = rw (lines-none text 0 h) at t in
+        let z : _≡_ {A = ℕ} 0 1 = cc in omega arith
 
 module _ {text : Bytes} {n parting count : ℕ} (g : GoodText text n parting count) where
   abbrev tail : List Item
@@ -131,7 +133,8 @@ module _ {text : Bytes} {n parting count : ℕ} (g : GoodText text n parting cou
     whole : rulingOn indices (most (capacity s₁)) text
         ≡ rulingFromState (most (capacity s₁)) (listCalls 1 n (length (g .first) + 2) (g .second)) s' x
     unfolding rulingOn rulingOfReading sessionCalls rulingFromState rulingFrom
-    whole = rw (g .text, ← b .is) (w .performs (g .first) tail first-lines .is (listCalls 1 n (length (g .first) + 2) (g .second)))
+    whole = rw (g .text, ← b .is) (w .performs (g .first) tail first-lines .is
+        (listCalls 1 n (length (g .first) + 2) (g .second)))
 
     pub first-refused : {s : List ℕ} → length s₁ ≡ length s → x .refused ≡ true
         → JudgeEnsures text s (No Full (x .line))
@@ -139,20 +142,30 @@ module _ {text : Bytes} {n parting count : ℕ} (g : GoodText text n parting cou
         record { is = rw (← l) (sym (whole ∙ ruling-refused (most (capacity s₁)) _ s' x q)); small = tt }
 
     module _ (q : x .refused ≡ false) where
-      first-done : ListEnds firstGates (1 + (parting - 2)) tail (record { refused = false; line = 0; place = 0; engine = e }) x
+      first-done : ListEnds firstGates (1 + (parting - 2)) tail (record {
+        refused = false;
+        line = 0;
+        place = 0;
+        engine = e;
+      }) x
       first-done = w .ends (g .first) tail first-lines q
 
       second-lines : GateLines secondGates (nextLine text (x .place)) (g .second) []
       second-lines =
           let i = items-next n text (x .place) (first-done .next) in
           record {
-            is = i .on (ends-from LF text (x .place) (omega (arith, i .inside))) ∙ sym (append-nil (gateItems (g .second)));
+            is = i .on (ends-from LF text (x .place) (omega (arith, i .inside)))
+                ∙ sym (append-nil (gateItems (g .second)));
             long = omega (arith, g .place, g .last);
           }
 
       pub second-ahead : ListRequires secondGates x
       second-ahead = record {
-        headed = record { going = q; inside = items-next n text (x .place) (first-done .next) .inside; passed = w .passed };
+        headed = record {
+          going = q;
+          inside = items-next n text (x .place) (first-done .next) .inside;
+          passed = w .passed;
+        };
         first = g .second;
         rest = [];
         are = second-lines;
@@ -203,7 +216,11 @@ pub verdict-ensures : {text : Bytes} {s : List ℕ} {o o' : Bytes} {r : Ruling} 
     → JudgeEnsures text s r → RulingWritten o r o' m
     → VerdictEnsures text s o o' (record { code = 0; bytes = m })
 unfolding verdictResult
-verdict-ensures h j w = record { code = rw (le-ltb _ _ h); bytes = rw (le-ltb _ _ h, ← j .is) (w .count); output = rw (le-ltb _ _ h, ← j .is) (w .exact) }
+verdict-ensures h j w = record {
+  code = rw (le-ltb _ _ h);
+  bytes = rw (le-ltb _ _ h, ← j .is) (w .count);
+  output = rw (le-ltb _ _ h, ← j .is) (w .exact);
+}
 
 -- `=` is a line of the text
 pub parting-within : {text : Bytes} {n parting count : ℕ} → GoodText text n parting count → parting ≤ count

@@ -46,7 +46,11 @@ same-gate e = cc
 module _ {text : Bytes} {a x : ListState} {e : ℕ} {b : PerformState} (h : LineAhead text a)
     (n : Ends LF text (a .place) e) (q : x ≡ listStateOf b (a .line + 1) (e + 1)) where
   line-done : LineDone text a x
-  line-done = rw q (record { place = ap (λ k. k + 1) (n .place); line = refl; passed = omega (arith, h .passed, n .from) })
+  line-done = rw q (record {
+    place = ap (λ k. k + 1) (n .place);
+    line = refl;
+    passed = omega (arith, h .passed, n .from);
+  })
 
   performs-line : {s c' s' : List ℕ} {xs : List Call}
       → PerformsCalls s c' s' (record { refused = false; engine = a .engine }) xs b
@@ -73,7 +77,8 @@ module _ {text : Bytes} {a x : ListState} {e : ℕ} {b : PerformState} (h : Line
       each : (k : Gate) → itemOf m (part text (a .place) (endFrom LF text (a .place))) ≡ item.Gate k
           → PerformsLines s c' s' a (atLine (a .line + 1) (gateCalls r k)) x
       each k z =
-          subst (λ y. PerformsLines s c' s' a (atLine (a .line + 1) (gateCalls r y)) x) (same-gate (sym (f .gate) ∙ rw (n .place) z)) (performs-line w)
+          subst (λ y. PerformsLines s c' s' a (atLine (a .line + 1) (gateCalls r y)) x)
+          (same-gate (sym (f .gate) ∙ rw (n .place) z)) (performs-line w)
 
 -- the line at hand is a gate's
 pub line-is-gate : {text : Bytes} {m : ℕ} {a : ListState} {e : ℕ} → GateRequires text m a → Ends LF text (a .place) e
@@ -128,7 +133,8 @@ module _ {text : Bytes} {n r count : ℕ} {a : ListState} {s₀ c s : List ℕ} 
   gates-loop-gate k h q =
       let v = g .each (k .first) (k .rest) (k .are) in
       let w = gate-left h v in
-      let x = gate-next {n = n} {s = text} {a = p .place} (w .0) (w .1 .0) (k .rest) (v .next ∙ ap (λ left. gateItems left ++ k .rest) (w .1 .1)) in
+      let x = gate-next {n = n} {s = text} {a = p .place} (w .0) (w .1 .0) (k .rest)
+      (v .next ∙ ap (λ left. gateItems left ++ k .rest) (w .1 .1)) in
       record {
         headed = record { going = q; inside = x .inside; passed = g .passed };
         gate = w .0;
@@ -152,7 +158,8 @@ module _ {text : Bytes} {n r count : ℕ} {a : ListState} {s₀ c s : List ℕ} 
           let d = gate-left h v in
           let k = d .0 in
           let ks = d .1 .0 in
-          let x = gate-next {n = n} {s = text} {a = p .place} k ks rest (v .next ∙ ap (λ left. gateItems left ++ rest) (d .1 .1)) in
+          let x = gate-next {n = n} {s = text} {a = p .place} k ks rest
+          (v .next ∙ ap (λ left. gateItems left ++ rest) (d .1 .1)) in
           let e = ends-from LF text (p .place) (omega (arith, x .inside)) in
           record {
             left = ks;
@@ -168,7 +175,8 @@ module _ {text : Bytes} {n r count : ℕ} {a : ListState} {s₀ c s : List ℕ} 
           one-gate k ks more e d =
               rw (e, gates-cons r (p .line + 1) k ks more)
               ((rw (g .long) at (d .is (gatesCalls r (p .line + 1 + 1) ks ++ more)))
-              ∙ ap (λ m. rulingFromState (most (capacity s₀)) (gatesCalls r (m + 1) ks ++ more) s' y) (sym (w .moved .line)))
+              ∙ ap (λ m. rulingFromState (most (capacity s₀)) (gatesCalls r (m + 1) ks ++ more) s' y)
+              (sym (w .moved .line)))
 
   pub gates-loop-refused : p .refused ≡ true → GatesEnsures l s₀ c s a p
   gates-loop-refused q = record {
@@ -176,7 +184,8 @@ module _ {text : Bytes} {n r count : ℕ} {a : ListState} {s₀ c s : List ℕ} 
     passed = g .passed;
     performs = λ gs rest ls. record {
       invariant = g .invariant;
-      is = λ more. g .each gs rest ls .is more ∙ ruling-refused (most (capacity s₀)) _ s p q ∙ sym (ruling-refused (most (capacity s₀)) more s p q);
+      is = λ more. g .each gs rest ls .is more ∙ ruling-refused (most (capacity s₀)) _ s p q
+          ∙ sym (ruling-refused (most (capacity s₀)) more s p q);
     };
     ends = λ gs rest ls z. absurd (true≢false (sym q ∙ z));
   }
@@ -204,7 +213,8 @@ module _ {text : Bytes} {n r count : ℕ} {a : ListState} {s₀ c s : List ℕ} 
             invariant = g .invariant;
             is =
                 λ more. v .is more
-                ∙ ap (λ left. rulingFromState (most (capacity s₀)) (gatesCalls r (p .line + 1) left ++ more) s p) (none-left v)
+                ∙ ap (λ left. rulingFromState (most (capacity s₀)) (gatesCalls r (p .line + 1) left ++ more) s p)
+                (none-left v)
                 ∙ gates-none r (p .line + 1) more;
           }
 
@@ -245,7 +255,8 @@ list-ensures {l} {s} {c₁} {s₁} {c'} {s'} {a} {x} {y} m o w =
     performs gs rest ls = record {
       invariant = w .invariant;
       is =
-          λ more. ap (λ k. rulingFromState (most (capacity s)) k s a) (list-cons (l .register) (l .qubits) (a .line + 1) gs more)
+          λ more. ap (λ k. rulingFromState (most (capacity s)) k s a)
+          (list-cons (l .register) (l .qubits) (a .line + 1) gs more)
           ∙ o .performs .is (gatesCalls (l .register) (a .line + 1 + 1) gs ++ more)
           ∙ gates-then more (w .performs gs rest (gate-lines-next (o .moved) ls));
     }
@@ -255,7 +266,8 @@ list-ensures {l} {s} {c₁} {s₁} {c'} {s'} {a} {x} {y} m o w =
             ≡ rulingFromState (most (capacity s)) more s' y
         gates-then more d = rw (← o .moved .line, ← m) (d .is more)
 
-    ends : (gs : List Gate) (rest : List Item) → GateLines l (nextLine (l .text) (a .place)) gs rest → y .refused ≡ false
+    ends : (gs : List Gate) (rest : List Item) → GateLines l (nextLine (l .text) (a .place)) gs rest → y .refused
+        ≡ false
         → ListEnds l (1 + l .count) rest a y
     ends gs rest ls z =
         let v = w .ends gs rest (gate-lines-next (o .moved) ls) z in

@@ -29,8 +29,8 @@ plus-zero a = plusW-comm a 0W ∙ plusW-zero a
 plus-medial : (a b c d : Weight) → plusW (plusW a b) (plusW c d) ≡ plusW (plusW a c) (plusW b d)
 plus-medial a b c d =
     plusW-assoc a b (plusW c d)
-    ∙ ap (plusW a) (sym (plusW-assoc b c d) ∙ ap (λ x. plusW x d) (plusW-comm b c) ∙ plusW-assoc c b d) ∙ sym
-    (plusW-assoc a c (plusW b d))
+    ∙ ap (plusW a) (sym (plusW-assoc b c d) ∙ ap (λ x. plusW x d) (plusW-comm b c) ∙ plusW-assoc c b d)
+    ∙ sym (plusW-assoc a c (plusW b d))
 
 pub cond-times : (b : Bool) (x y : Weight) → timesW (cond b x 0W) y ≡ cond b (timesW x y) 0W
 cond-times true x y = refl
@@ -73,7 +73,8 @@ pub product-assoc : (n : ℕ) (A B C : Operator) (o i : BasisState)
     → product n (product n A B) C o i ≡ product n A (product n B C) o i
 unfolding product sumStates
 product-assoc n A B C o i =
-    sum-same (2 ^ n) (λ v. timesW-comm (sumBelow (2 ^ n) (λ w. timesW (A o (bits w)) (B (bits w) (bits v)))) (C (bits v) i)
+    sum-same (2 ^ n) (λ v. timesW-comm (sumBelow (2 ^ n) (λ w. timesW (A o (bits w)) (B (bits w) (bits v))))
+    (C (bits v) i)
     ∙ sym (sum-times (2 ^ n) (C (bits v) i) (λ w. timesW (A o (bits w)) (B (bits w) (bits v)))))
     ∙ sum-swap (2 ^ n) (2 ^ n) (λ v w. timesW (C (bits v) i) (timesW (A o (bits w)) (B (bits w) (bits v))))
     ∙ sum-same (2 ^ n) (λ w.
@@ -95,7 +96,8 @@ settings-agree (suc n) S g h f e =
         ≡ cond b (plusW (settings n S h (assign n false f)) (settings n S h (assign n true f))) (settings n S h f)
     go false ih = ih f (λ k p. refl)
     go true ih =
-        ap₂ plusW (ih (assign n false f) (λ k p. assign-other k n false f (λ q. omega arith))) (ih (assign n true f) (λ k p. assign-other k n true f (λ q. omega arith)))
+        ap₂ plusW (ih (assign n false f) (λ k p. assign-other k n false f (λ q. omega arith)))
+        (ih (assign n true f) (λ k p. assign-other k n true f (λ q. omega arith)))
 
 abbrev all : Bits
 all k = true
@@ -115,7 +117,10 @@ pub settings-beyond : (n d : ℕ) (S : Bits) (h : Bits → Weight) (f : Bits) �
 unfolding settings
 settings-beyond n zero S h f p e = let z : n ≡ 0 = omega arith in rw z
 settings-beyond n (suc d) S h f p e =
-    elim (ℕ-discrete n (suc d)) [ yes z ↦ rw z | no z ↦ rw (e d (omega arith)) (settings-beyond n d S h f (omega arith) e) ]
+    elim (ℕ-discrete n (suc d)) [
+      | yes z ↦ rw z
+      | no z ↦ rw (e d (omega arith)) (settings-beyond n d S h f (omega arith) e)
+    ]
 
 -- where every index below n is set, what stood there does not count
 settings-base : (n top : ℕ) (h : Bits → Weight) → Sees top h → (x y : Bits) → ((k : ℕ) → n ≤ k → k < top → x k ≡ y k)
@@ -123,7 +128,8 @@ settings-base : (n top : ℕ) (h : Bits → Weight) → Sees top h → (x y : Bi
 unfolding settings
 settings-base zero top h s x y e = s x y (λ k p. e k (omega arith) p)
 settings-base (suc n) top h s x y e =
-    ap₂ plusW (settings-base n top h s (assign n false x) (assign n false y) (both false)) (settings-base n top h s (assign n true x) (assign n true y) (both true))
+    ap₂ plusW (settings-base n top h s (assign n false x) (assign n false y) (both false))
+    (settings-base n top h s (assign n true x) (assign n true y) (both true))
   where
     both : (b : Bool) (k : ℕ) → n ≤ k → k < top → assign n b x k ≡ assign n b y k
     both b k p q =
@@ -212,11 +218,13 @@ collapse (suc n) qs h o x e = go (hasQubit qs n) refl (o n) refl (λ o x e. coll
     kept : (b : Bool) → (hasQubit qs n || equal (o n) b) ≡ true
         → settings n all whole (assign n b x) ≡ settings n all (rest o) (assign n b x)
     kept b t =
-        settings-agree n all whole (rest o) (assign n b x) (λ m a. and-yes (others n qs o m) _ (h m) (ap (λ c. hasQubit qs n || equal (o n) c) (value-at b m a) ∙ t))
+        settings-agree n all whole (rest o) (assign n b x)
+        (λ m a. and-yes (others n qs o m) _ (h m) (ap (λ c. hasQubit qs n || equal (o n) c) (value-at b m a) ∙ t))
 
     gone : (b : Bool) → (hasQubit qs n || equal (o n) b) ≡ false → settings n all whole (assign n b x) ≡ 0W
     gone b t =
-        settings-agree n all whole (λ m. 0W) (assign n b x) (λ m a. and-no (others n qs o m) _ (h m) (ap (λ c. hasQubit qs n || equal (o n) c) (value-at b m a) ∙ t))
+        settings-agree n all whole (λ m. 0W) (assign n b x)
+        (λ m a. and-no (others n qs o m) _ (h m) (ap (λ c. hasQubit qs n || equal (o n) c) (value-at b m a) ∙ t))
         ∙ settings-zero n (assign n b x)
 
     above : (b : Bool) (k : ℕ) → n ≤ k → assign n b x k ≡ assign n b o k
@@ -235,7 +243,8 @@ collapse (suc n) qs h o x e = go (hasQubit qs n) refl (o n) refl (λ o x e. coll
     each b t ih =
         kept b (rw t)
         ∙ settings-agree n all (rest o) (rest (assign n b o)) (assign n b x)
-        (λ m a. ap (λ c. cond c (h m) 0W) (others-sees n qs o (assign n b o) m m (λ k p. sym (assign-other k n b o (λ z. omega arith))) (λ k p. refl)))
+        (λ m a. ap (λ c. cond c (h m) 0W) (others-sees n qs o (assign n b o) m m
+        (λ k p. sym (assign-other k n b o (λ z. omega arith))) (λ k p. refl)))
         ∙ ih (assign n b o) (assign n b x) (above b)
 
     same : (b : Bool) → hasQubit qs n ≡ false → o n ≡ b → Step
@@ -261,7 +270,8 @@ states-same n e = ap (sumStates n) (fun-ext e)
 pub sum-collapse : (n : ℕ) (qs : List ℕ) (h : BasisState → Weight) (o : BasisState) → Sees n h
     → sumStates n (λ m. cond (others n qs o m) (h m) 0W) ≡ settings n (hasQubit qs) h o
 sum-collapse n qs h o s =
-    sum-states n (λ m. cond (others n qs o m) (h m) 0W) o (λ a b e. ap₂ (λ c w. cond c w 0W) (others-sees n qs o o a b (λ k p. refl) e) (s a b e))
+    sum-states n (λ m. cond (others n qs o m) (h m) 0W) o
+    (λ a b e. ap₂ (λ c w. cond c w 0W) (others-sees n qs o o a b (λ k p. refl) e) (s a b e))
     ∙ collapse n qs h o o (λ k p. refl)
 
 -- the identity changes nothing, on the left and on the right

@@ -38,7 +38,11 @@ digits-loop-start = record { within = omega arith; small = omega arith; same = r
 pub digits-loop-next : {s : Bytes} {v i : ℕ} → DigitsLoop s v i → i < length s → 48 ≤ getD s i 0 → getD s i 0 ≤ 57
     → DigitsLoop s (10 * v + (getD s i 0 - 48)) (i + 1)
 digits-loop-next {s} {v} {i} r h p q =
-    record { within = omega arith; small = rw (add-one i, pow-suc 10 i) (omega arith); same = sym (digits-on v s i h p q) ∙ r .same }
+    record {
+      within = omega arith;
+      small = rw (add-one i, pow-suc 10 i) (omega arith);
+      same = sym (digits-on v s i h p q) ∙ r .same;
+    }
 
 pub digits-loop-small : {s : Bytes} {v i : ℕ} → DigitsLoop s v i → i < length s → length s ≤ mostDigits → v < 100000000
 digits-loop-small {s} {v} {i} r h p =

@@ -67,4 +67,11 @@ module _ {s s₁ : List ℕ} {e : Engine} {d k j : ℕ} {x : Edge} {b : Bool} {r
           (settle (most (capacity s)) d (low k (tensorOf s (e .state) x) (setOf s (e .state))) (tallyOf s e))
           ≡ settle (most (capacity s₁)) d (low k (tensorOf s₁ (e .state) x) (setOf s₁ (e .state))) (tallyOf s₁ e)
       lowered =
-          rw (← m, ← w .is, q, alike-capacity (w .alike), same-records-tensor (e .state) x (w .alike), same-records-set (e .state) (w .alike))
+          rw (
+            ← m,
+            ← w .is,
+            q,
+            alike-capacity (w .alike),
+            same-records-tensor (e .state) x (w .alike),
+            same-records-set (e .state) (w .alike),
+          )

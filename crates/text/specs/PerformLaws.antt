@@ -66,7 +66,8 @@ unfolding rulingFrom atLine perform
 performs-call {s} {c'} {s'} {a} {x} {y} q w n = record {
   invariant = w .invariant;
   is =
-      λ line more. rw (q, w .is, n) (ruling-continue (most (capacity s)) line (y .answer) (tallyOf s' (y .engine)) (perform (most (capacity s)) more));
+      λ line more. rw (q, w .is, n) (ruling-continue (most (capacity s)) line (y .answer) (tallyOf s' (y .engine))
+      (perform (most (capacity s)) more));
 }
 
 pub drop-collect-ensures : {s c' s' : List ℕ} {e : Engine} {rs rs' : Registers} {st : State}
@@ -113,7 +114,8 @@ module _ {c s : List ℕ} {a : PerformState} {r : ℕ} (g : Gate) (w : EngineInv
   performs-empty m o n = record {
     invariant = rw m w;
     is = λ line more. rw (q, n)
-        (gate-empty (most (capacity s)) line r g (tallyOf s (a .engine)) more small (holds-read (setOf s (a .engine .state)) i ∙ ap (heldTensor _) o));
+        (gate-empty (most (capacity s)) line r g (tallyOf s (a .engine)) more small
+        (holds-read (setOf s (a .engine .state)) i ∙ ap (heldTensor _) o));
   }
 
   pub performs-gate : {x : Edge} {c₁ s₁ c' s' : List ℕ} {y : Reply} {z : PerformState} → Placed mostQubits g
@@ -125,7 +127,8 @@ module _ {c s : List ℕ} {a : PerformState} {r : ℕ} (g : Gate) (w : EngineInv
     invariant = f .invariant;
     is = λ line more. rw q
         (ap (rulingAtEnd (most (capacity s)))
-        (gate-performs (most (capacity s)) line r g (tensorOf s (a .engine .state) x) (tallyOf s (a .engine)) more small sixteen
+        (gate-performs (most (capacity s)) line r g (tensorOf s (a .engine .state) x) (tallyOf s (a .engine)) more small
+        sixteen
         (holds-read (setOf s (a .engine .state)) i
         ∙ ap (heldTensor _) o) (gate-rising indices mostQubits g (omega (arith, indices-count)) p)
         ∙ ap (λ y. continueWith line y (λ t. perform (most (capacity s)) more (dropCollect t))) (v .is))

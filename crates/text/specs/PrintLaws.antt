@@ -38,7 +38,11 @@ written-then l at s t h =
     let room : at + length s ≤ length l = omega arith in
     let size = written-length l at s room in
     let both : at + length (s ++ t) ≤ length l = omega (arith, length-append s t) in
-    rw (written-sets (written l at s) (at + length s) t (omega arith), written-sets l at s room, written-sets l at (s ++ t) both)
+    rw (
+      written-sets (written l at s) (at + length s) t (omega arith),
+      written-sets l at s room,
+      written-sets l at (s ++ t) both,
+    )
     (sets-append l at s t)
 
 pub wrote-length : {l : Bytes} {at : ℕ} {s l' : Bytes} {e : ℕ} → at + length s ≤ length l → Wrote l at s l' e
@@ -85,7 +89,8 @@ digits-more zero n p h = absurd (omega arith)
 digits-more (suc zero) n p h = rw (lt-ltb n 10 (omega arith))
 digits-more (suc (suc k)) n p h =
     ap (λ (l : Bytes). cond (ltb n 10) ((48 + n) ∷ []) (l ++ ((48 + n % 10) ∷ [])))
-    (digits-more (suc k) (n / 10) (omega arith) (div-lt-iff-lt-mul {k = 10} (omega arith) .1 (rw (pow-suc 10 (suc k)) at h)))
+    (digits-more (suc k) (n / 10) (omega arith) (div-lt-iff-lt-mul {k = 10} (omega arith) .1
+    (rw (pow-suc 10 (suc k)) at h)))
 
 pub decimal-small : (n : ℕ) → n < 10 → decimal n ≡ (48 + n) ∷ []
 unfolding decimal digits
@@ -94,7 +99,8 @@ decimal-small n h = rw (lt-ltb n 10 h)
 pub decimal-more : (n : ℕ) → 10 ≤ n → n < 2 ^ 64 → decimal n ≡ decimal (n / 10) ++ ((48 + n % 10) ∷ [])
 unfolding decimal digits
 decimal-more n h b =
-    rw (le-ltb n 10 h) (ap (λ (l : Bytes). l ++ ((48 + n % 10) ∷ [])) (sym (digits-more 19 (n / 10) (omega arith) (omega arith))))
+    rw (le-ltb n 10 h) (ap (λ (l : Bytes). l ++ ((48 + n % 10) ∷ []))
+    (sym (digits-more 19 (n / 10) (omega arith) (omega arith))))
 
 digits-length : (m k n : ℕ) → 0 < k → n < 10 ^ k → length (digits m n) ≤ k
 unfolding digits
@@ -102,7 +108,8 @@ digits-length zero k n p h = omega arith
 digits-length (suc m) zero n p h = absurd (omega arith)
 digits-length (suc m) (suc zero) n p h = rw (lt-ltb n 10 (omega arith)) (omega arith)
 digits-length (suc m) (suc (suc k)) n p h =
-    go (ltb n 10) (digits-length m (suc k) (n / 10) (omega arith) (div-lt-iff-lt-mul {k = 10} (omega arith) .1 (rw (pow-suc 10 (suc k)) at h)))
+    go (ltb n 10) (digits-length m (suc k) (n / 10) (omega arith)
+    (div-lt-iff-lt-mul {k = 10} (omega arith) .1 (rw (pow-suc 10 (suc k)) at h)))
   where
     go : (t : Bool) → length (digits m (n / 10)) ≤ suc k
         → length (cond t ((48 + n) ∷ []) (digits m (n / 10) ++ ((48 + n % 10) ∷ []))) ≤ suc (suc k)

@@ -7,7 +7,8 @@ use Prim.Native.Nat.{ℕ, _-_, suc, _*_, _≤_, zero, _/_, _%_, _+_}
 use native.Mathlib.Omega.{arith}
 use native.Mathlib.Decide.{ℕ-discrete}
 use borrow.Author.Tests.{eq-eqb, ne-eqb}
-use Rattle.diagram.specs.Tensor.{Bits, input, middle, fresh, assign, Tensor, bits, at, value, scale, indices, indices-count}
+use Rattle.diagram.specs.Tensor.{Bits, input, middle, fresh, assign, Tensor, bits, at, value, scale}
+use Rattle.diagram.specs.Tensor.{indices, indices-count}
 use Rattle.diagram.specs.BitsLaws.{assign-at, assign-other}
 use Rattle.diagram.specs.Weights.{timesW, 0W, 1W, Weight}
 use Rattle.diagram.specs.Tabulate.{Sees}
@@ -54,8 +55,8 @@ gate-has n g T M p l s has f =
     let o = outputs f in
     let i = inputs f in
     gate-applied n g T f p l
-    ∙ settings-thirds n (bits (middles qs)) (hasQubit qs) (λ x. timesW (entry g x) (at T x)) (λ m. timesW (entry g (wires o m)) (M m i))
-    (Wired qs o i) (wired-set qs o i)
+    ∙ settings-thirds n (bits (middles qs)) (hasQubit qs) (λ x. timesW (entry g x) (at T x))
+    (λ m. timesW (entry g (wires o m)) (M m i)) (Wired qs o i) (wired-set qs o i)
     (λ x m w. ap₂ timesW
     (entry-alike g x (wires o m) (each-map qs (λ q e. (
       e ∙ sym (wires-fresh o m q),
@@ -95,7 +96,8 @@ list-sees-input : (n : ℕ) (gs : List Gate) → AllPlaced n gs → (o : BasisSt
 unfolding listMatrix
 list-sees-input n [] p o = identity-sees-input n o
 list-sees-input n (g ∷ gs) p o =
-    product-sees-input n (listMatrix n gs) (gateMatrix n g) o (λ m a b e. gate-matrix-sees n g (p .0) m m a b (λ k p. refl) e)
+    product-sees-input n (listMatrix n gs) (gateMatrix n g) o
+    (λ m a b e. gate-matrix-sees n g (p .0) m m a b (λ k p. refl) e)
 
 -- A list of gates applied to a tensor is the list's matrix on the left of the tensor's.
 pub list-has : {d : ℕ} (n : ℕ) (gs : List Gate) (T : Tensor d) (M : Operator) → AllPlaced n gs → 3 * n ≤ d

@@ -53,7 +53,14 @@ answer-line-ensures {line} {next} {s} {c'} {s'} {o} {o'} {p} {x} {y} {n} l r w h
     record {
       invariant = r .invariant;
       is =
-          rw (← l .call, r .is, w .exact, w .after, add-one (p .lines), written-take o (p .bytes) (printed (y .answer)) room);
+          rw (
+            ← l .call,
+            r .is,
+            w .exact,
+            w .after,
+            add-one (p .lines),
+            written-take o (p .bytes) (printed (y .answer)) room,
+          );
       code = refl;
       lines = refl;
       place = refl;
@@ -105,7 +112,12 @@ resume-ensures {e = e} {s₀ = s₀} {s = s} {o₀ = o₀} {o} {p} h b r u k w q
   rest = r;
   place = k;
   tally = unfold runOf in ap (λ (x : TallyRun indices). x .tally) (sym q);
-  agrees = record { ends = subst (Agrees s o₀ o (resultOf p)) (sym q) (agrees-now p h b u); from = s₀; first = resultAtStart e; passes = w };
+  agrees = record {
+    ends = subst (Agrees s o₀ o (resultOf p)) (sym q) (agrees-now p h b u);
+    from = s₀;
+    first = resultAtStart e;
+    passes = w;
+  };
   from = refl;
   first = refl;
 }
@@ -115,7 +127,13 @@ resume-ensures {e = e} {s₀ = s₀} {s = s} {o₀ = o₀} {o} {p} h b r u k w q
 -- a run that goes on has the code 0
 not-stopped : (p : Progress) → p .code ≡ 0 → resultOf p ≡ beforeStop (resultOf p)
 not-stopped p e =
-    λ i. record { code = e i; lines = p .lines; bytes = p .bytes; count = p .engine .state .count; registers = p .engine .registers }
+    λ i. record {
+      code = e i;
+      lines = p .lines;
+      bytes = p .bytes;
+      count = p .engine .state .count;
+      registers = p .engine .registers;
+    }
 
 pub resume-loop-start : {text : Bytes} {limit : ℕ} {e : Engine} {c s : List ℕ} {o : Bytes} → EngineInvariant c s e
     → ResumeLoop text limit e s o c s o (record { code = 0; lines = 0; bytes = 0; place = 0; engine = e })
@@ -133,7 +151,8 @@ resume-loop-start {e = e} {o = o} p = record {
   untouched = refl;
   now = refl;
   passes =
-      start refl (agrees-now {o = o} (record { code = 0; lines = 0; bytes = 0; place = 0; engine = e }) p (omega arith) refl);
+      start refl (agrees-now {o = o} (record { code = 0; lines = 0; bytes = 0; place = 0; engine = e }) p (omega arith)
+      refl);
 }
 
 module _ {text : Bytes} {limit : ℕ} {e : Engine} {s₀ : List ℕ} {o₀ : Bytes} {c s : List ℕ} {o : Bytes} {p : Progress}
@@ -172,7 +191,8 @@ module _ {text : Bytes} {limit : ℕ} {e : Engine} {s₀ : List ℕ} {o₀ : Byt
 
     next-run : (ls : List Bytes)
         → runs (part text (p .place) k ∷ ls) (runOf s o p) ≡ cond (leb (p .bytes + answerRoom) (length o₀))
-        (runs ls (withAnswer (runOf s o p) (answer (most (capacity s₀)) (readLine (part text (p .place) k)) (tallyOf s (p .engine)))))
+        (runs ls (withAnswer (runOf s o p) (answer (most (capacity s₀)) (readLine (part text (p .place) k))
+        (tallyOf s (p .engine)))))
         (tally.stoppedRun (runOf s o p))
     unfolding run
     next-run ls = rw (shown, tally-now)
@@ -215,7 +235,12 @@ module _ {text : Bytes} {limit : ℕ} {e : Engine} {s₀ : List ℕ} {o₀ : Byt
       lines = a .lines ∙ add-one (p .lines);
       long = u;
       refused =
-          λ no. a .refused ((rw (getD-next (p .lines) allowed [] (next-line h m (w .ends)), g .now, tally-now, ← g .long) at no));
+          λ no. a .refused ((rw (
+            getD-next (p .lines) allowed [] (next-line h m (w .ends)),
+            g .now,
+            tally-now,
+            ← g .long,
+          ) at no));
     }
 
     pub resume-loop-next : ResumeLoop text limit e s₀ o₀ c' s' o' r
@@ -239,7 +264,8 @@ module _ {text : Bytes} {limit : ℕ} {e : Engine} {s₀ : List ℕ} {o₀ : Byt
   -- the lines answered so far are all
   run-ended : take (p .lines) allowed ≡ allowed → ResumeEnsures text limit e s₀ c s o₀ o p
   run-ended q =
-      resume-ensures (g .invariant) (g .bytes) (g .rest) (g .untouched) (g .within) (g .passes) (ap (λ ls. runs ls from) (sym q) ∙ g .now)
+      resume-ensures (g .invariant) (g .bytes) (g .rest) (g .untouched) (g .within) (g .passes)
+      (ap (λ ls. runs ls from) (sym q) ∙ g .now)
 
   pub resume-loop-end : length text ≤ p .place → ResumeEnsures text limit e s₀ c s o₀ o p
   resume-loop-end h =
@@ -256,7 +282,8 @@ module _ {text : Bytes} {limit : ℕ} {e : Engine} {s₀ : List ℕ} {o₀ : Byt
   unfolding runOf tally.stoppedRun
   resume-loop-stop h m n q =
       let k = ends-from LF text (p .place) (omega arith) in
-      rw q (resume-ensures {p = stoppedProgress p} (g .invariant) (g .bytes) (g .rest) (g .untouched) (g .within) (g .passes)
+      rw q (resume-ensures {p = stoppedProgress p} (g .invariant) (g .bytes) (g .rest) (g .untouched) (g .within)
+      (g .passes)
       (all-run h m k ∙ next-run h m k _
       ∙ rw (lt-leb (p .bytes + answerRoom) (length o₀) (omega (arith, g .size, g .bytes)))))
 

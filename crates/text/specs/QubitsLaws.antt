@@ -97,7 +97,8 @@ middles-below d least j [] r p = zero-bits j
     zero-bits zero = refl
     zero-bits (suc j) = zero-bits j
 middles-below d least j (q ∷ qs) r p =
-    bit-other (3 * q + 1) j (middles qs) (λ e. omega arith) (middles-below d (suc q) (3 * q + 1) qs (r .2) (omega arith))
+    bit-other (3 * q + 1) j (middles qs) (λ e. omega arith)
+    (middles-below d (suc q) (3 * q + 1) qs (r .2) (omega arith))
     ∙ middles-below d (suc q) j qs (r .2) (omega arith)
 
 set-more : (d least x : ℕ) (w : ℕ) (qs : List ℕ) → Rising d least qs → x < least → bits w (3 * x + 1) ≡ false
@@ -113,8 +114,10 @@ pub middles-set : (d least : ℕ) (qs : List ℕ) → Rising d least qs → AllS
 unfolding middles
 middles-set d least [] r = tt
 middles-set d least (q ∷ qs) r =
-    let e = middles-below d (suc q) (3 * q + 1) qs (r .2) (omega arith) in
-    (bit-added (3 * q + 1) (middles qs) e, set-more d (suc q) q (middles qs) qs (r .2) (omega arith) e (middles-set d (suc q) qs (r .2)))
+    let e = middles-below d (suc q) (3 * q + 1) qs (r .2) (omega arith) in (
+      bit-added (3 * q + 1) (middles qs) e,
+      set-more d (suc q) q (middles qs) qs (r .2) (omega arith) e (middles-set d (suc q) qs (r .2)),
+    )
 
 pub placed-allowed : (g : Gate) → Placed mostQubits g → QubitsInRange g
 placed-allowed g p = let b = below (shape g) p in record { one = b .0; two = b .1 }

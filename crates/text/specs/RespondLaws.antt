@@ -141,7 +141,11 @@ module _ {c s : List ℕ} {e : Engine} {r : Reply} (p : EngineInvariant c s e) w
 module _ {e : Engine} {r : Reply} {a : ℕ} {h : Held} (g : GetEnsures (e .registers .all) a h) where
   pub empty-drop : h ≡ held.Empty → RefuseEnsures e Empty r → PureEnsures e (call.Drop a) r
   unfolding answer
-  empty-drop q f = record { on = λ s. record { on = λ c p. respond-refused p (refused-forgets Empty (λ z. omega arith) f) f (operand-empty s e g _ q) } }
+  empty-drop q f = record {
+    on = λ s. record {
+      on = λ c p. respond-refused p (refused-forgets Empty (λ z. omega arith) f) f (operand-empty s e g _ q);
+    };
+  }
 
   pub empty-at : {s : List ℕ} {v : ℕ} → h ≡ held.Empty → RefuseEnsures e Empty r → ReadEnsures s e (call.At a v) r
   unfolding answer
@@ -150,7 +154,11 @@ module _ {e : Engine} {r : Reply} {a : ℕ} {h : Held} (g : GetEnsures (e .regis
 
   pub empty-cmp : {b : ℕ} → h ≡ held.Empty → RefuseEnsures e Empty r → PureEnsures e (call.Cmp a b) r
   unfolding answer
-  empty-cmp q f = record { on = λ s. record { on = λ c p. respond-refused p (refused-forgets Empty (λ z. omega arith) f) f (operand-empty s e g _ q) } }
+  empty-cmp q f = record {
+    on = λ s. record {
+      on = λ c p. respond-refused p (refused-forgets Empty (λ z. omega arith) f) f (operand-empty s e g _ q);
+    };
+  }
 
   pub empty-cmp-2 : {b : ℕ} {k : Held} {x : Edge} → h ≡ held.Edge x → GetEnsures (e .registers .all) b k
       → k ≡ held.Empty
@@ -158,7 +166,12 @@ module _ {e : Engine} {r : Reply} {a : ℕ} {h : Held} (g : GetEnsures (e .regis
       → PureEnsures e (call.Cmp a b) r
   unfolding answer
   empty-cmp-2 o j q f =
-      record { on = λ s. record { on = λ c p. respond-refused p (refused-forgets Empty (λ z. omega arith) f) f (operand s e g _ o ∙ operand-empty s e j _ q) } }
+      record {
+        on = λ s. record {
+          on = λ c p. respond-refused p (refused-forgets Empty (λ z. omega arith) f) f
+              (operand s e g _ o ∙ operand-empty s e j _ q);
+        };
+      }
 
 -- the calls that set a register
 
@@ -188,13 +201,15 @@ module _ {c' s s' : List ℕ} {e : Engine} {d : ℕ} {r : Reply} where
         → SettleEnsures c s₁ c' s' e d m r
         → RespondEnsures c' s s' e (call.Gate d g) r
     unfolding answer tallyOf
-    responds-gate {g = g} w h = sets-register-as {f = build (gateTensor indices g)} (λ z. z) refl (sets-register-step p _ w h)
+    responds-gate {g = g} w h = sets-register-as {f = build (gateTensor indices g)} (λ z. z) refl
+        (sets-register-step p _ w h)
 
     pub responds-unit : {s₁ : List ℕ} {m : Outcome} {n : ℕ} → Refines s s₁ (e .state) (build (unitTensor indices n)) m
         → SettleEnsures c s₁ c' s' e d m r
         → RespondEnsures c' s s' e (call.Unit d n) r
     unfolding answer tallyOf
-    responds-unit {n = n} w h = sets-register-as {f = build (unitTensor indices n)} (λ z. z) refl (sets-register-step p _ w h)
+    responds-unit {n = n} w h = sets-register-as {f = build (unitTensor indices n)} (λ z. z) refl
+        (sets-register-step p _ w h)
 
   module _ {a b : ℕ} {h g : Held} {x y : Edge} (i : GetEnsures (e .registers .all) a h) (o : h ≡ held.Edge x)
       (j : GetEnsures (e .registers .all) b g) (q : g ≡ held.Edge y) where
@@ -289,7 +304,8 @@ module _ {e : Engine} {a : ℕ} {h : Held} {x : Edge} (i : GetEnsures (e .regist
           record {
             invariant = p;
             small =
-                subst SmallAnswer (sym m) (small-comparison _ _ r (subst (ComparisonMeans _ _) t (compared-means (tensorOf s (e .state) x) (tensorOf s (e .state) y))));
+                subst SmallAnswer (sym m) (small-comparison _ _ r
+                (subst (ComparisonMeans _ _) t (compared-means (tensorOf s (e .state) x) (tensorOf s (e .state) y))));
             is = operand s e i _ o ∙ operand s e j _ q ∙ ap (λ z. (z, tallyOf s e)) (ap comparison t ∙ sym m);
             refused = λ no. record { nodes = refl; registers = refl };
             forgets = never-full n (ap isNo m ∙ comparison-accepted r);

@@ -60,4 +60,8 @@ module _ (l : Bytes) (n line : ℕ) (room : verdictRoom ≤ length l) (small : n
 -- an answer that fits 16 bytes fits 32
 pub ruling-written-answer : {l l' : Bytes} {r : ℕ} (a : Answer) (ruling : Ruling) → printedRuling ruling ≡ printed a
     → AnswerWritten l 0 a l' r → RulingWritten l ruling l' r
-ruling-written-answer a ruling e p = record { exact = rw e (p .exact); count = rw e (omega (arith, p .after)); short = omega (arith, p .after, p .short) }
+ruling-written-answer a ruling e p = record {
+  exact = rw e (p .exact);
+  count = rw e (omega (arith, p .after));
+  short = omega (arith, p .after, p .short);
+}

@@ -123,7 +123,8 @@ module _ {d : ℕ} (r j : ℕ) (o : Option (Tensor d)) (r-small : r < 2) (j-smal
   unfolding answer
   gate-call-runs c g T t h =
       runs-settle c (HoldsGate r T j o (gateTensor d g)) 2 (build (gateTensor d g) (t .nodes)) t
-      (rw (writes-answer (build-writes (gateTensor d g)) (t .nodes)) (holds-list-gate (gateTensor d g) T (t .registers) h))
+      (rw (writes-answer (build-writes (gateTensor d g)) (t .nodes))
+      (holds-list-gate (gateTensor d g) T (t .registers) h))
 
   cont-call-runs : (c : Capacity) (G T : Tensor d) (m : ℕ) (t : Tally d) → HoldsGate r T j o G (t .registers)
       → CallRuns c (HoldsGate r (sumOver (bits m) (times G T)) j o G) (answer c (call.Cont r 2 r m) t)
@@ -172,9 +173,11 @@ module _ {d : ℕ} (r j : ℕ) (o : Option (Tensor d)) (r-small : r < 2) (j-smal
   low-calls-run c line least G T [] t u f w = end w
   low-calls-run c line least G T (q ∷ qs) t u f w =
       let e : 3 * q + 2 - 1 ≡ 3 * q + 1 = omega arith in
-      runs-on (HoldsGate r (renameDown (3 * q + 2) T) j o G) (HoldsGate r (renamedTensor qs (renameDown (3 * q + 2) T)) j o G) line (perform c (atLine line (lowCalls r qs)))
+      runs-on (HoldsGate r (renameDown (3 * q + 2) T) j o G)
+      (HoldsGate r (renamedTensor qs (renameDown (3 * q + 2) T)) j o G) line (perform c (atLine line (lowCalls r qs)))
       (low-call-runs c G T (3 * q + 2) t (omega arith) (u .1) (rw e (f .0)) w)
-      (λ t w. low-calls-run c line (suc q) G (renameDown (3 * q + 2) T) qs t (u .2) (all-free-renamed (suc q) q qs T (u .2) (omega arith) (u .1) (f .0) (f .1)) w)
+      (λ t w. low-calls-run c line (suc q) G (renameDown (3 * q + 2) T) qs t (u .2)
+      (all-free-renamed (suc q) q qs T (u .2) (omega arith) (u .1) (f .0) (f .1)) w)
 
   -- a gate's calls up to its last `low`
   made-runs : (c : Capacity) (line : ℕ) (g : Gate) (T : Tensor d) (t : Tally d) → Rising d 0 (qubits g)
@@ -186,9 +189,12 @@ module _ {d : ℕ} (r j : ℕ) (o : Option (Tensor d)) (r-small : r < 2) (j-smal
       let m = middles (qubits g) in
       let G = gateTensor d g in
       let Q = HoldsGate r (appliedTensor g T) j o G in
-      runs-on (HoldsGate r T j o G) Q line (perform c (atLine line (call.Cont r 2 r m ∷ lowCalls r (qubits g)))) (gate-call-runs c g T t h)
-      (λ t w. runs-on (HoldsGate r (contractedTensor g T) j o G) Q line (perform c (atLine line (lowCalls r (qubits g)))) (cont-call-runs c G T m t w)
-      (λ t w. low-calls-run c line 0 G (contractedTensor g T) (qubits g) t u (all-free 0 (qubits g) (bits m) G T u (middles-set d 0 (qubits g) u)) w))
+      runs-on (HoldsGate r T j o G) Q line (perform c (atLine line (call.Cont r 2 r m ∷ lowCalls r (qubits g))))
+      (gate-call-runs c g T t h)
+      (λ t w. runs-on (HoldsGate r (contractedTensor g T) j o G) Q line
+      (perform c (atLine line (lowCalls r (qubits g)))) (cont-call-runs c G T m t w)
+      (λ t w. low-calls-run c line 0 G (contractedTensor g T) (qubits g) t u
+      (all-free 0 (qubits g) (bits m) G T u (middles-set d 0 (qubits g) u)) w))
 
   dropped-runs : (c : Capacity) (line : ℕ) (G T : Tensor d) (t : Tally d) → HoldsGate r T j o G (t .registers)
       → CallsRun c (HoldsList r T j o) (perform c (atLine line (call.Drop 2 ∷ call.Collect ∷ [])) t)
@@ -208,7 +214,8 @@ module _ {d : ℕ} (r j : ℕ) (o : Option (Tensor d)) (r-small : r < 2) (j-smal
       let made = call.Gate 2 g ∷ call.Cont r 2 r (middles (qubits g)) ∷ lowCalls r (qubits g) in
       let dropped = call.Drop 2 ∷ call.Collect ∷ [] in
       rw (at-line-append line made dropped)
-      (runs-append (HoldsGate r (appliedTensor g T) j o (gateTensor d g)) (HoldsList r (appliedTensor g T) j o) (atLine line made) (atLine line dropped) t
+      (runs-append (HoldsGate r (appliedTensor g T) j o (gateTensor d g)) (HoldsList r (appliedTensor g T) j o)
+      (atLine line made) (atLine line dropped) t
       (made-runs c line g T t u h) (λ t w. dropped-runs c line (gateTensor d g) (appliedTensor g T) t w))
 
   gates-run : (c : Capacity) (line : ℕ) (gs : List Gate) (T : Tensor d) (t : Tally d) → AllFit d gs
@@ -217,8 +224,9 @@ module _ {d : ℕ} (r j : ℕ) (o : Option (Tensor d)) (r-small : r < 2) (j-smal
   unfolding gatesCalls appliedList perform
   gates-run c line [] T t u h = end h
   gates-run c line (g ∷ gs) T t u h =
-      runs-append (HoldsList r (appliedTensor g T) j o) (HoldsList r (appliedList gs (appliedTensor g T)) j o) (atLine line (gateCalls r g)) (gatesCalls r (line + 1) gs) t
-      (gate-runs c line g T t (u .0) h) (λ t h. gates-run c (line + 1) gs (appliedTensor g T) t (u .1) h)
+      runs-append (HoldsList r (appliedTensor g T) j o) (HoldsList r (appliedList gs (appliedTensor g T)) j o)
+      (atLine line (gateCalls r g)) (gatesCalls r (line + 1) gs) t (gate-runs c line g T t (u .0) h)
+      (λ t h. gates-run c (line + 1) gs (appliedTensor g T) t (u .1) h)
 
   -- one list, in register r
   pub list-runs : (c : Capacity) (n line : ℕ) (gs : List Gate) (t : Tally d) → AllFit d gs
@@ -226,5 +234,6 @@ module _ {d : ℕ} (r j : ℕ) (o : Option (Tensor d)) (r-small : r < 2) (j-smal
       → CallsRun c (HoldsList r (appliedList gs (unitTensor d n)) j o) (perform c (listCalls r n line gs) t)
   unfolding listCalls perform
   list-runs c n line gs t u l e =
-      runs-on (HoldsList r (unitTensor d n) j o) (HoldsList r (appliedList gs (unitTensor d n)) j o) line (perform c (gatesCalls r (line + 1) gs)) (unit-call-runs c n t l e)
+      runs-on (HoldsList r (unitTensor d n) j o) (HoldsList r (appliedList gs (unitTensor d n)) j o) line
+      (perform c (gatesCalls r (line + 1) gs)) (unit-call-runs c n t l e)
       (λ t h. gates-run c (line + 1) gs (unitTensor d n) t u h)

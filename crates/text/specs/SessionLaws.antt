@@ -34,7 +34,8 @@ module _ {d : ℕ} (c : Capacity) (room : ℕ) where
   unfolding run
   run-append [] ls r = refl
   run-append (k ∷ ks) ls r =
-      go (leb (length (r .output) + answerRoom) room) refl (run-append ks ls (withAnswer r (answer c (readLine k) (r .tally))))
+      go (leb (length (r .output) + answerRoom) room) refl
+      (run-append ks ls (withAnswer r (answer c (readLine k) (r .tally))))
     where
       go : (b : Bool) → leb (length (r .output) + answerRoom) room ≡ b
           → run c room (ks ++ ls) (withAnswer r (answer c (readLine k) (r .tally)))
@@ -112,7 +113,8 @@ module _ {d : ℕ} (c : Capacity) (t : Tally d) (h : fits c (nodeCount t) ≡ tr
   fit-settle r y = go (fits c (length (y .1))) refl
     where
       go : (b : Bool) → fits c (length (y .1)) ≡ b
-          → Fit (cond b (accept (record { nodes = y .1; registers = set (t .registers) r (some (y .0)) })) (refuse Full t))
+          → Fit (cond b (accept (record { nodes = y .1; registers = set (t .registers) r (some (y .0)) }))
+          (refuse Full t))
       go true e = e
       go false e = h
 
@@ -154,9 +156,11 @@ pub run-fits : {d : ℕ} (c : Capacity) (room : ℕ) (ls : List Bytes) (r : Tall
 unfolding run withAnswer stoppedRun
 run-fits c room [] r h = h
 run-fits c room (l ∷ ls) r h =
-    go (leb (length (r .output) + answerRoom) room) (run-fits c room ls (withAnswer r (answer c (readLine l) (r .tally))) (answer-fits c (r .tally) h (readLine l)))
+    go (leb (length (r .output) + answerRoom) room)
+    (run-fits c room ls (withAnswer r (answer c (readLine l) (r .tally))) (answer-fits c (r .tally) h (readLine l)))
   where
     go : (b : Bool) → fits c (nodeCount (run c room ls (withAnswer r (answer c (readLine l) (r .tally))) .tally)) ≡ true
-        → fits c (nodeCount (cond b (run c room ls (withAnswer r (answer c (readLine l) (r .tally)))) (stoppedRun r) .tally)) ≡ true
+        → fits c (nodeCount (cond b (run c room ls (withAnswer r (answer c (readLine l) (r .tally))))
+        (stoppedRun r) .tally)) ≡ true
     go true p = p
     go false p = h

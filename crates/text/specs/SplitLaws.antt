@@ -87,7 +87,8 @@ parts-here b none [] h = absurd (omega arith)
 parts-here b none (x ∷ s) h = go (eqb x b) h (parts-here b none s)
   where
     go : (t : Bool) → cond t 0 (suc (countBefore b s)) < suc (length s)
-        → (countBefore b s < length s → parts b none s ≡ take (countBefore b s) s ∷ parts b none (drop (suc (countBefore b s)) s))
+        → (countBefore b s < length s → parts b none s ≡ take (countBefore b s) s ∷ parts b none
+        (drop (suc (countBefore b s)) s))
         → cond t ([] ∷ parts b none s) (onto x (parts b none s))
         ≡ take (cond t 0 (suc (countBefore b s))) (x ∷ s) ∷ parts b none
         (drop (suc (cond t 0 (suc (countBefore b s)))) (x ∷ s))
@@ -236,7 +237,12 @@ same-loop-start p q = record { within = omega arith; left = p; right = q; same =
 pub same-loop-next : {s t : Bytes} {n i : ℕ} → SameLoop s t n i → i < n → getD s i 0 ≡ getD t i 0
     → SameLoop s t n (i + 1)
 same-loop-next {s} {t} {n} {i} r h e =
-    record { within = omega arith; left = r .left; right = r .right; same = sym (same-on s t i (omega arith) (omega arith) e) ∙ r .same }
+    record {
+      within = omega arith;
+      left = r .left;
+      right = r .right;
+      same = sym (same-on s t i (omega arith) (omega arith) e) ∙ r .same;
+    }
 
 pub same-loop-not : {s t : Bytes} {n i : ℕ} → SameLoop s t n i → i < n → (getD s i 0 ≡ getD t i 0 → ⊥)
     → false ≡ sameBytes s t

@@ -37,7 +37,12 @@ invariant-push {seen} {k = k} {r = r} {b} h e q =
       fits = h .fits;
       kept = rw (e, q .kept, is);
       next = λ rest.
-          rw (append-assoc seen (b ∷ []) rest, is, append-assoc (squeezed seen) k (squeezedFrom (r .tabs) (r .width) rest), ← h .next rest)
+          rw (
+            append-assoc seen (b ∷ []) rest,
+            is,
+            append-assoc (squeezed seen) k (squeezedFrom (r .tabs) (r .width) rest),
+            ← h .next rest,
+          )
           (q .next (b ∷ rest));
     }
 

@@ -108,15 +108,35 @@ from-fields [] t w q = rw (take-nil {A = ℕ} (9 - w))
 from-fields (x ∷ s) t w q =
     elim (ℕ-discrete x tab) [
       | yes e ↦ elim (decLt t 5) [
-        | yes h ↦ rw (from-tab t w s e h, fields-tab x (squeezedFrom (suc t) 0 s) e, fields-tab x s e, from-fields s (suc t) 0 (omega arith))
+        | yes h ↦ rw (
+          from-tab t w s e h,
+          fields-tab x (squeezedFrom (suc t) 0 s) e,
+          fields-tab x s e,
+          from-fields s (suc t) 0 (omega arith),
+        )
             (rw (some-left 5 t h, take-nil {A = ℕ} (9 - w), trimmed-next (5 - suc t) (fields s)))
-        | no h ↦ rw (from-last t w s e (omega arith), fields-tab x s e, from-fields s t 9 (omega arith), none-left 5 t (omega arith))
+        | no h ↦ rw (
+          from-last t w s e (omega arith),
+          fields-tab x s e,
+          from-fields s t 9 (omega arith),
+          none-left 5 t (omega arith),
+        )
             (trimmed-last (9 - w) (fields s) (fields-some s))
       ]
       | no e ↦ elim (decLt w 9) [
-        | yes h ↦ rw (from-byte t w s e h, fields-byte x (squeezedFrom t (suc w) s) e, fields-byte x s e, from-fields s t (suc w) (omega arith))
+        | yes h ↦ rw (
+          from-byte t w s e h,
+          fields-byte x (squeezedFrom t (suc w) s) e,
+          fields-byte x s e,
+          from-fields s t (suc w) (omega arith),
+        )
             (rw (some-left 9 w h) (trimmed-onto x (9 - suc w) (5 - t) (fields s)))
-        | no h ↦ rw (from-full t w s e (omega arith), fields-byte x s e, from-fields s t w q, none-left 9 w (omega arith))
+        | no h ↦ rw (
+          from-full t w s e (omega arith),
+          fields-byte x s e,
+          from-fields s t w q,
+          none-left 9 w (omega arith),
+        )
             (trimmed-full x (5 - t) (fields s) (fields-some s))
       ]
     ]
@@ -177,7 +197,8 @@ count-numbers : (args : Args) (fs : List Bytes) (m : ℕ) → m ≤ 5 → m ≤ 
 unfolding numbers
 count-numbers args [] m p h = h
 count-numbers args (f ∷ fs) m p h =
-    count-numbers (pushNumber args (numberOf mostDigits f)) fs m p (omega (arith, count-with args (numberOf mostDigits f) m 0 p (omega arith)))
+    count-numbers (pushNumber args (numberOf mostDigits f)) fs m p
+    (omega (arith, count-with args (numberOf mostDigits f) m 0 p (omega arith)))
 
 -- What refuses m or more numbers does not ask for fields after the first n, where those bring the numbers to m.
 module _ {A : Type 0} (says : Args → A) (m : ℕ) (most : m ≤ 5)
@@ -222,7 +243,8 @@ gate-cut [] = refl
 gate-cut (d ∷ []) = refl
 gate-cut (d ∷ name ∷ qubits) =
     rw (number-cut d, name-cut (numberOf mostDigits d) name)
-    (numbers-cut (gateCallOf (numberOf mostDigits d) name) 3 (omega arith) (gate-wrong (numberOf mostDigits d) name) 3 None qubits (omega arith))
+    (numbers-cut (gateCallOf (numberOf mostDigits d) name) 3 (omega arith) (gate-wrong (numberOf mostDigits d) name) 3
+    None qubits (omega arith))
 
 call-cut : (fs : List Bytes) → callFields (trimmed 6 fs) ≡ callFields fs
 unfolding callFields

@@ -89,7 +89,8 @@ module _ {X : Type 0} (Of : ℕ → List Gate → X → Type 0) (E : X → X →
       (subst (λ B. P (a .first) B) (k .second-only (a .second) (a .second-is)) (a .are)))
 
   exactly : (P : X → X → Type 0) (q : Ruling) → ((f : Fault) (line : ℕ) → q ≢ No f line)
-      → ((n : ℕ) (gs hs : List Gate) (k : Known Of E T (theRuling c text) n gs hs) → (theRuling c text ≡ q) ↔ P (k .first) (k .second))
+      → ((n : ℕ) (gs hs : List Gate) (k : Known Of E T (theRuling c text) n gs hs) → (theRuling c text ≡ q) ↔ P
+      (k .first) (k .second))
       → (theRuling c text ≡ q) ↔ ListsAre Of c text P
   exactly P q h t = (
     λ e. lists-are P (λ f line z. h f line (sym e ∙ z)) (λ n gs hs k. t n gs hs k .0 e),
@@ -106,7 +107,8 @@ module _ {X : Type 0} (Of : ℕ → List Gate → X → Type 0) (E : X → X →
 
   factor-of-ruled : (f : ℕ) → (theRuling c text ≡ Factor f) ↔ ListsAre Of c text (λ A B. (¬ E A B) × (f ≢ 1) × T f A B)
   factor-of-ruled f =
-      exactly _ (Factor f) (λ g line e. let z : _≡_ {A = ℕ} 0 1 = cc in omega arith) (λ n gs hs k. k .meaning .factor-of f)
+      exactly _ (Factor f) (λ g line e. let z : _≡_ {A = ℕ} 0 1 = cc in omega arith)
+      (λ n gs hs k. k .meaning .factor-of f)
 
   factor-ruled : ((f : ℕ) × (theRuling c text ≡ Factor f))
       ↔ ListsAre Of c text (λ A B. (¬ E A B) × ((f : ℕ) × (T f A B ⊎ T f B A)))

@@ -79,14 +79,17 @@ one-early n q x = known-early x _ (λ g. ensured-early (ltb q n) faults.Qubit (i
 
 two-early : (n p q : ℕ) (x : Named) → EarlyItem (twoQubitItem n p q x)
 two-early n p q x =
-    known-early x _ (λ g. ensured-early (ltb p n) faults.Qubit _ tt (ensured-early (ltb q n) faults.Qubit _ tt (ensured-early _ faults.Equal (item.Gate g) tt tt)))
+    known-early x _ (λ g. ensured-early (ltb p n) faults.Qubit _ tt
+    (ensured-early (ltb q n) faults.Qubit _ tt (ensured-early _ faults.Equal (item.Gate g) tt tt)))
 
 fields-early : (n : ℕ) (fs : List Bytes) → EarlyItem (gateItemFields n fs)
 unfolding gateItemFields gateItemOf
 fields-early n [] = tt
 fields-early n (name ∷ qs) =
-    by-count EarlyItem _ _ (λ q. oneQubitItem n q (oneQubit name q)) (λ p q. twoQubitItem n p q (twoQubits name p q)) _ _ tt tt
-    (λ q. one-early n q (oneQubit name q)) (λ p q. two-early n p q (twoQubits name p q)) (λ a b c. tt) (λ a b c d. tt) (numbers 1 None qs)
+    by-count EarlyItem _ _ (λ q. oneQubitItem n q (oneQubit name q)) (λ p q. twoQubitItem n p q (twoQubits name p q)) _
+    _ tt tt
+    (λ q. one-early n q (oneQubit name q)) (λ p q. two-early n p q (twoQubits name p q)) (λ a b c. tt) (λ a b c d. tt)
+    (numbers 1 None qs)
 
 item-early : (n : ℕ) (line : Bytes) → EarlyItem (itemOf n line)
 unfolding itemOf
@@ -112,7 +115,8 @@ first-early : (n at : ℕ) (ls : List Bytes) → EarlyReading (firstList n at ls
 unfolding firstList firstItem withFirst
 first-early n at [] = tt
 first-early n at (line ∷ ls) =
-    go (itemOf n line) (item-early n line) (firstList n (at + 1) ls) (first-early n (at + 1) ls) (secondList n (at + 1) ls) (second-early n (at + 1) ls)
+    go (itemOf n line) (item-early n line) (firstList n (at + 1) ls) (first-early n (at + 1) ls)
+    (secondList n (at + 1) ls) (second-early n (at + 1) ls)
   where
     go : (i : Item) → EarlyItem i → (r : Reading) → EarlyReading r → (q : Reading) → EarlyReading q
         → EarlyReading (firstItem i at r q)

@@ -131,5 +131,6 @@ pub full-line : {d : ℕ} (c : Capacity) (text : Bytes) {n : ℕ} {gs hs : List 
     → readText text ≡ lists n gs hs
     → perform {d = d} c (sessionCalls n gs hs) emptyTally ≡ refusedAt line r → line ≤ length text
 full-line c text {n} {gs} {hs} {line} {r} e q =
-    let m = perform-most c (2 + (length gs + length hs)) line r (sessionCalls n gs hs) (most-session n gs hs) emptyTally q in
+    let m = perform-most c (2 + (length gs + length hs)) line r (sessionCalls n gs hs) (most-session n gs hs) emptyTally
+    q in
     omega (arith, m, lists-lines text e)

@@ -4,7 +4,8 @@ use mathlib.Core.Logic.{_≢_, _⊎_, inl, inr, _↔_, Iff·trans, Iff·not, Iff
 use mathlib.Core.List.{List}
 use Prim.Native.Nat.{ℕ, _<_, _*_, _≤_}
 use native.Mathlib.Omega.{arith}
-use Rattle.diagram.specs.Weights.{toWeight, Nonzero, nonzero-weight, Weight, weight-number, weight-zero, nonzero-not, modulus}
+use Rattle.diagram.specs.Weights.{modulus, Weight, toWeight, weight-number, weight-zero}
+use Rattle.diagram.specs.Weights.{Nonzero, nonzero-weight, nonzero-not}
 use Rattle.diagram.specs.Weights.{inverseW, inverse-nonzero, weight-one, number-weight}
 use Rattle.diagram.specs.Tensor.{Tensor, scale, indices, indices-count}
 use Rattle.diagram.specs.ScaleLaws.{unscale}
@@ -112,7 +113,8 @@ module _ {d : ℕ} (A B : Tensor d) where
     factor = (λ p. let s = tells (Factor (p .0)) (p .1) in (s .0, (p .0, inl (s .2))), λ p. some-factor (p .0) (p .1));
     differ = (
       tells Differ,
-      λ p. ap comparedRuling (compared-differ A B (record { differ = p .0; multiple = λ f z e. p .1 (f .number, inl (scaled-weight f A B z e)) })),
+      λ p. ap comparedRuling (compared-differ A B (record
+          { differ = p .0; multiple = λ f z e. p .1 (f .number, inl (scaled-weight f A B z e)) })),
     );
     no-other = λ f line. tells (No f line);
     factor-of = λ f. (tells (Factor f), λ p. is-factor f (p .0) (p .2));
@@ -139,14 +141,18 @@ meaning-carry : {r : Ruling} {E E' : Type 0} {M M' N N' : ℕ → Type 0} → E 
     → Meaning r E M N → Meaning r E' M' N'
 meaning-carry {M = M} {M'} {N} {N'} e m n t =
     let not-equal = Iff·not e in
-    let one : ((f : ℕ) × (M f ⊎ N f)) ↔ ((f : ℕ) × (M' f ⊎ N' f)) = (either (λ f. m f .0) (λ f. n f .0), either (λ f. m f .1) (λ f. n f .1)) in
+    let one : ((f : ℕ) × (M f ⊎ N f)) ↔ ((f : ℕ) × (M' f ⊎ N' f)) =
+    (either (λ f. m f .0) (λ f. n f .0), either (λ f. m f .1) (λ f. n f .1)) in
     record {
       same = Iff·trans (t .same) e;
       factor = Iff·trans (t .factor) (Iff·and not-equal one);
       differ = Iff·trans (t .differ) (Iff·and not-equal (Iff·not one));
       no-other = t .no-other;
       factor-of = λ f.
-          Iff·trans (t .factor-of f) (λ p. (not-equal .0 (p .0), p .1, m f .0 (p .2)), λ p. (not-equal .1 (p .0), p .1, m f .1 (p .2)));
+          Iff·trans (t .factor-of f) (
+            λ p. (not-equal .0 (p .0), p .1, m f .0 (p .2)),
+            λ p. (not-equal .1 (p .0), p .1, m f .1 (p .2)),
+          );
     }
 
 -- at every assignment
@@ -218,7 +224,8 @@ module _ (c : Capacity) (text : Bytes) {n : ℕ} {gs hs : List Gate} (e : readTe
   -- "same", "factor" and "differ" are said exactly where the lists' tensors stand so
   pub verdict-means : NotFull c text → VerdictMeans c text n gs hs
   verdict-means h =
-      let t = meaning-carry (agree-exactly (listTensorOf gs) (listTensorOf hs)) (scaled-values (listTensorOf gs) (listTensorOf hs)) (scaled-values (listTensorOf hs) (listTensorOf gs))
+      let t = meaning-carry (agree-exactly (listTensorOf gs) (listTensorOf hs))
+      (scaled-values (listTensorOf gs) (listTensorOf hs)) (scaled-values (listTensorOf hs) (listTensorOf gs))
       (tells-verdict h) in
       record {
         first = listTensorOf gs;
@@ -235,7 +242,8 @@ module _ (c : Capacity) (text : Bytes) {n : ℕ} {gs hs : List Gate} (e : readTe
   -- and exactly where the products of the gates' matrices do
   pub verdict-matrices : NotFull c text → VerdictMatrices c text n gs hs
   verdict-matrices h =
-      let t = meaning-carry (lists-same indices n gs hs (good .first) (good .second) room) (scaled-matrices gs hs (good .first) (good .second))
+      let t = meaning-carry (lists-same indices n gs hs (good .first) (good .second) room)
+      (scaled-matrices gs hs (good .first) (good .second))
       (scaled-matrices hs gs (good .second) (good .first)) (tells-verdict h) in
       record { same = t .same; factor = t .factor; differ = t .differ; factor-of = t .factor-of }
     where
@@ -245,6 +253,14 @@ module _ (c : Capacity) (text : Bytes) {n : ℕ} {gs hs : List Gate} (e : readTe
       scaled-matrices : (k l : List Gate) → AllPlaced n k → AllPlaced n l → (f : ℕ)
           → Scaled f (listTensorOf k) (listTensorOf l) ↔ MatrixIsTimes f (listMatrix n k) (listMatrix n l)
       scaled-matrices k l p q f = (
-        λ s. record { weight = s .weight; nonzero = s .nonzero; entries = lists-multiple indices n k l p q room (toWeight f) .0 (s .is) },
-        λ s. record { weight = s .weight; nonzero = s .nonzero; is = lists-multiple indices n k l p q room (toWeight f) .1 (s .entries) },
+        λ s. record {
+          weight = s .weight;
+          nonzero = s .nonzero;
+          entries = lists-multiple indices n k l p q room (toWeight f) .0 (s .is);
+        },
+        λ s. record {
+          weight = s .weight;
+          nonzero = s .nonzero;
+          is = lists-multiple indices n k l p q room (toWeight f) .1 (s .entries);
+        },
       )

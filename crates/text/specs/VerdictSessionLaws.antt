@@ -40,7 +40,8 @@ start-empty d = refl
 pub list-tensor : (d n : ℕ) (gs : List Gate) → AllFit d gs → listTensor d n gs ≡ some (appliedList gs (unitTensor d n))
 unfolding listTensor
 list-tensor d n gs u =
-    go (list-runs 0 1 none (omega arith) (omega arith) (λ e. omega arith) unlimited n 1 gs emptyTally u (start-sixteen d) (start-empty d))
+    go (list-runs 0 1 none (omega arith) (omega arith) (λ e. omega arith) unlimited n 1 gs emptyTally u
+    (start-sixteen d) (start-empty d))
   where
     go : {x : PerformResult d} → CallsRun unlimited (HoldsList 0 (appliedList gs (unitTensor d n)) 1 none) x
         → registerTensor 0 x ≡ some (appliedList gs (unitTensor d n))
@@ -56,9 +57,12 @@ unfolding sessionCalls
 session-runs {d} c n gs hs u v =
     let T = appliedList gs (unitTensor d n) in
     let U = appliedList hs (unitTensor d n) in
-    runs-append (HoldsList 0 T 1 none) (HoldsBoth T U) (listCalls 0 n 1 gs) (listCalls 1 n (length gs + 2) hs) emptyTally
-    (list-runs 0 1 none (omega arith) (omega arith) (λ e. omega arith) c n 1 gs emptyTally u (start-sixteen d) (start-empty d))
-    (λ t h. runs-less (list-runs 1 0 (some T) (omega arith) (omega arith) (λ e. omega arith) c n (length gs + 2) hs t v (h .sixteen) (h .here)) (λ l h. record { first = h .there; second = h .here }))
+    runs-append (HoldsList 0 T 1 none) (HoldsBoth T U) (listCalls 0 n 1 gs) (listCalls 1 n (length gs + 2) hs)
+    emptyTally
+    (list-runs 0 1 none (omega arith) (omega arith) (λ e. omega arith) c n 1 gs emptyTally u (start-sixteen d)
+    (start-empty d))
+    (λ t h. runs-less (list-runs 1 0 (some T) (omega arith) (omega arith) (λ e. omega arith) c n (length gs + 2) hs t v
+    (h .sixteen) (h .here)) (λ l h. record { first = h .there; second = h .here }))
 
 -- what a reading says of its lists
 abbrev GoodReading : ℕ → Reading → Type 0
@@ -81,7 +85,8 @@ first-good : (n at : ℕ) (ls : List Bytes) → GoodReading n (firstList n at ls
 unfolding firstList firstItem withFirst
 first-good n at [] = tt
 first-good n at (line ∷ ls) =
-    go (itemOf n line) (item-placed n line) (firstList n (at + 1) ls) (first-good n (at + 1) ls) (secondList n (at + 1) ls) (second-good n (at + 1) ls)
+    go (itemOf n line) (item-placed n line) (firstList n (at + 1) ls) (first-good n (at + 1) ls)
+    (secondList n (at + 1) ls) (second-good n (at + 1) ls)
   where
     go : (i : Item) → PlacedItem n i → (r : Reading) → GoodReading n r → (q : Reading) → GoodReading n q
         → GoodReading n (firstItem i at r q)
@@ -125,7 +130,8 @@ ruling-judged c text {n} {gs} {hs} e =
     let g = good-lists text e in
     rw e
     (ruling-both c (appliedList gs (unitTensor indices n)) (appliedList hs (unitTensor indices n))
-    (session-runs c n gs hs (fit gs (placed-fit n gs (g .most-qubits) (g .first))) (fit hs (placed-fit n hs (g .most-qubits) (g .second)))))
+    (session-runs c n gs hs (fit gs (placed-fit n gs (g .most-qubits) (g .first)))
+    (fit hs (placed-fit n hs (g .most-qubits) (g .second)))))
   where
     fit : (gs : List Gate) → AllFit indexCount gs → AllFit indices gs
     fit gs f = rw indices-count f

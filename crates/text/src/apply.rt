@@ -59,7 +59,8 @@ fn contract_rename(
     x: Edge,
     qubits: Qubits,
 ) -> Outcome
-    requires { ⌜ OperationRequires (now cache) (now store) s a x × (RangedQubits qubits × Rising indices 0 (qubitList qubits)) ⌝ }
+    requires { ⌜ OperationRequires (now cache) (now store) s a x
+        × (RangedQubits qubits × Rising indices 0 (qubitList qubits)) ⌝ }
     ensures { λ r. ⌜ RefinesCached (now (cache .exit)) (now (store .entry)) (now (store .exit)) s
         (contractStep (qubitList qubits) (tensorOf (now (store .entry)) s x) (tensorOf (now (store .entry)) s a)) r ⌝ }
 {

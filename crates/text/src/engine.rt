@@ -10,7 +10,8 @@ use diagram::restore;
 ghost use Prim.Native.Nat.{_<_};
 ghost use Rattle.diagram.specs.Restore.{RollbackRequires};
 ghost use Rattle.text.specs.Limits.{registerCount};
-ghost use Rattle.text.specs.Engine.{EngineStartEnsures, RefuseEnsures, RollBackEnsures, SettleRequires, SettleEnsures};
+ghost use Rattle.text.specs.Engine.{EngineStartEnsures, RefuseEnsures, RollBackEnsures};
+ghost use Rattle.text.specs.Engine.{SettleRequires, SettleEnsures};
 
 // The nodes are in the store; this is the rest.
 pub struct Engine {

@@ -8,9 +8,11 @@ receive-requires c κs = (search (needs, session-start), search needs)
 
 returns : tie.Need-returns
 returns c =
-    let receive = c .before .before .before .before .before .before .before .before .before .before .before .before .before .before .before .before in
+    let finish = c .before .before .before .before .before .before in
+    let receive = finish .before .before .before .before .before .before .before .before .before .before in
     let start = receive .before .before .before .before .before .before .before in
-    session-ensures (start .pre .0) (start .pre .1) (receive .receive .ensures) (c .before .before .before .before .before .before .finish .ensures)
+    session-ensures (start .pre .0) (start .pre .1) (receive .receive .ensures)
+    (finish .finish .ensures)
 
 pub session-spec : {M : Type 1} → statement M
 session-spec =

@@ -55,9 +55,11 @@ part-part-requires-2 t c κs =
     let chosen = first .before .before .before .before .before .before in
     let start = chosen .before in
     let prefix = start .before .before .pre .1 .1 .1 in
-    let sound = gate-sound _ _ _ (start .if1 .left) prefix (chosen .next .ensures) _ _ _ _ (first .before .before .before .before .part .ensures)
+    let sound = gate-sound _ _ _ (start .if1 .left) prefix (chosen .next .ensures) _ _ _ _
+    (first .before .before .before .before .part .ensures)
     (first .l .given .1) in
-    let high = bits-below-next (bits-below-high prefix (start .if1 .left) (c .before .high .ensures)) (chosen .next .ensures) in
+    let high = bits-below-next (bits-below-high prefix (start .if1 .left) (c .before .high .ensures))
+    (chosen .next .ensures) in
     search (needs, sound, high)
 
 part-returns-3 : (t : ℕ) → part-lts.Need-returns-3 (part-claims t) (part-at t) part.Post
@@ -69,8 +71,9 @@ part-join-requires t c κs =
     let first = second .before .before .before .before .before .before .before .before in
     let chosen = first .before .before .before .before .before .before in
     let start = chosen .before in
-    let joins = gate-joins _ _ _ (start .if1 .left) (start .before .before .pre .1 .1 .1) (chosen .next .ensures) _ _ _ _
-    (first .before .before .before .before .part .ensures) (first .l .given .1) (second .before .before .before .before .before .before .high .ensures)
+    let joins = gate-joins _ _ _ (start .if1 .left) (start .before .before .pre .1 .1 .1) (chosen .next .ensures) _ _ _
+    _ (first .before .before .before .before .part .ensures) (first .l .given .1)
+    (second .before .before .before .before .before .before .high .ensures)
     _ _ (second .before .before .before .before .part2 .ensures) (second .h .given .1) in
     (joins .sound, joins .joinable)
 
@@ -80,8 +83,9 @@ part-returns-4 t c =
     let first = second .before .before .before .before .before .before .before .before in
     let chosen = first .before .before .before .before .before .before in
     let start = chosen .before in
-    let joins = gate-joins _ _ _ (start .if1 .left) (start .before .before .pre .1 .1 .1) (chosen .next .ensures) _ _ _ _
-    (first .before .before .before .before .part .ensures) (first .l .given .1) (second .before .before .before .before .before .before .high .ensures)
+    let joins = gate-joins _ _ _ (start .if1 .left) (start .before .before .pre .1 .1 .1) (chosen .next .ensures) _ _ _
+    _ (first .before .before .before .before .part .ensures) (first .l .given .1)
+    (second .before .before .before .before .before .before .high .ensures)
     _ _ (second .before .before .before .before .part2 .ensures) (second .h .given .1) in
     joins .does _ (c .before .before .join .result) (c .before .before .join .ensures)
 
@@ -90,7 +94,7 @@ pub +part-spec : {M : Type 1} → statement M
     close
     μ-part
     λ t. part-lts.spec
-    (part-claims t) (part-at t) part.Post (λ c κs. search needs) (part-returns t) (λ c. search needs) (λ c κs. search needs) (part-part-requires t)
-    (λ c. search needs) (λ c. search needs) (λ c. search needs) (part-returns-2 t) (λ c κs. search needs) (part-part-requires-2 t)
-    (λ c. search needs) (λ c. search needs) (λ c. search needs) (part-returns-3 t) (part-join-requires t) (λ c. search needs)
-    (part-returns-4 t)
+    (part-claims t) (part-at t) part.Post (λ c κs. search needs) (part-returns t) (λ c. search needs)
+    (λ c κs. search needs) (part-part-requires t) (λ c. search needs) (λ c. search needs) (λ c. search needs)
+    (part-returns-2 t) (λ c κs. search needs) (part-part-requires-2 t) (λ c. search needs) (λ c. search needs)
+    (λ c. search needs) (part-returns-3 t) (part-join-requires t) (λ c. search needs) (part-returns-4 t)

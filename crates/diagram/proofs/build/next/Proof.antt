@@ -12,4 +12,5 @@ returns-2 c = search (needs, none-used-turned)
 pub next-spec : {M : Type 1} → statement M
 next-spec =
     tie.close
-    (tie.spec (λ c κs. search needs) (λ c κs. search needs) (λ c κs. search needs) (λ c κs. search needs) returns returns-2)
+    (tie.spec (λ c κs. search needs) (λ c κs. search needs) (λ c κs. search needs) (λ c κs. search needs) returns
+    returns-2)

@@ -21,13 +21,15 @@ returns-2 : tie.Need-returns-2
 returns-2 c =
     let place = c .before .before in
     let start = place .before .before .before in
-    remember-written _ (place .place .result) _ _ _ _ _ (omega arith) (start .pre .0) (start .pre .1) (c .before .packed .ensures) (c .wide .ensures)
+    remember-written _ (place .place .result) _ _ _ _ _ (omega arith) (start .pre .0) (start .pre .1)
+    (c .before .packed .ensures) (c .wide .ensures)
 
 pub remember-spec : {M : Type 1} → statement M
 remember-spec =
     tie.close
     (tie.spec
     returns (λ c κs. search needs) (λ c κs. search needs) (λ c κs. search needs) (λ c. search needs) (λ c. search needs)
-    (λ c. search needs) (λ c. search needs) (λ c. search needs) (λ c. search needs) (λ c. search needs) slice-write-cache-2
-    (λ c. search needs) (λ c. search needs) slice-write-cache-3 (λ c. search needs) (λ c. search needs) slice-write-cache-4
+    (λ c. search needs) (λ c. search needs) (λ c. search needs) (λ c. search needs) (λ c. search needs)
+    slice-write-cache-2 (λ c. search needs) (λ c. search needs) slice-write-cache-3 (λ c. search needs)
+    (λ c. search needs) slice-write-cache-4
     (λ c. search needs) returns-2)

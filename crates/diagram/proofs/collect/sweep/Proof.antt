@@ -7,8 +7,10 @@ use Rattle.diagram.proofs.collect.sweep.Tie as tie
 compact-requires : tie.Need-compact-requires
 compact-requires c κs =
     let reach = c .before .before .before in
-    let start = reach .before .before .before in
-    (omega (arith, start .pre .0, reach .reach .kept .0), (start .pre .1 .0, rw (reach .reach .ensures .kept) (reach .reach .ensures .closed)))
+    let start = reach .before .before .before in (
+      omega (arith, start .pre .0, reach .reach .kept .0),
+      (start .pre .1 .0, rw (reach .reach .ensures .kept) (reach .reach .ensures .closed)),
+    )
 
 returns : tie.Need-returns
 returns c =

@@ -43,8 +43,10 @@ loop-less c = omega arith
 
 loop-again : tie.Need-loop-again Inv-loop μ-loop
 loop-again c =
-    let loop = c .before .before .before .before .before in let start = loop .before .before in
-    (c .before .before .step .ensures .on _ _ (start .pre .1 .1) (loop .loop .inv .0), c .before .before .step .kept .0 ∙ loop .loop .inv .1)
+    let loop = c .before .before .before .before .before in let start = loop .before .before in (
+      c .before .before .step .ensures .on _ _ (start .pre .1 .1) (loop .loop .inv .0),
+      c .before .before .step .kept .0 ∙ loop .loop .inv .1,
+    )
 
 same-length : tie.Need-same-length Inv-loop μ-loop
 same-length c = c .before .loop .inv .1

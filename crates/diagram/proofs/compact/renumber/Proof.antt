@@ -24,7 +24,8 @@ moved-requires c κs e =
     let loop = c .before .before in
     let start = loop .before .before in
     let same = renumber-ahead _ _ _ _ (loop .loop .inv .0) in
-    let v = register-valid _ _ _ (start .pre .1 .valid) (omega (arith, start .pre .1 .sixteen)) (eq-eqb _ _ (ap (λ (r : Register). r .filled) (sym same) ∙ e)) in
+    let v = register-valid _ _ _ (start .pre .1 .valid) (omega (arith, start .pre .1 .sixteen))
+    (eq-eqb _ _ (ap (λ (r : Register). r .filled) (sym same) ∙ e)) in
     rw same (omega (arith, start .pre .0, v .within))
 
 add-i : tie.Need-add-i Inv-loop μ-loop
@@ -36,8 +37,10 @@ loop-less c = omega arith
 loop-again : tie.Need-loop-again Inv-loop μ-loop
 loop-again c =
     let loop = c .before .before .before in
-    let start = loop .before .before in
-    (renumber-on _ _ _ _ _ (omega (arith, start .pre .1 .sixteen)) (loop .loop .inv .0) (c .moved .ensures), omega arith)
+    let start = loop .before .before in (
+      renumber-on _ _ _ _ _ (omega (arith, start .pre .1 .sixteen)) (loop .loop .inv .0) (c .moved .ensures),
+      omega arith,
+    )
 
 returns : tie.Need-returns Inv-loop μ-loop
 returns c =
@@ -48,5 +51,6 @@ pub renumber-spec : {M : Type 1} → statement M
 renumber-spec =
     tie.close
     (tie.spec
-    Inv-loop μ-loop loop-holds (λ c. search needs) (λ c. search needs) moved-requires (λ c. search needs) (λ c. search needs) add-i
+    Inv-loop μ-loop loop-holds (λ c. search needs) (λ c. search needs) moved-requires (λ c. search needs)
+    (λ c. search needs) add-i
     loop-less loop-again returns)

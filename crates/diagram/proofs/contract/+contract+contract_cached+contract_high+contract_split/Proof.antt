@@ -118,7 +118,14 @@ contract-claims t = (
 )
 
 abbrev contract-cached-claims : ℕ → contract-cached-lts.Claims
-contract-cached-claims t = (lookup-reads.Asked, lookup-reads.Learnt, contract-split-below t, contract-split.Post, keep-reads.Asked, keep-reads.Learnt)
+contract-cached-claims t = (
+  lookup-reads.Asked,
+  lookup-reads.Learnt,
+  contract-split-below t,
+  contract-split.Post,
+  keep-reads.Asked,
+  keep-reads.Learnt,
+)
 
 abbrev contract-high-claims : ℕ → contract-high-lts.Claims
 contract-high-claims t = (
@@ -184,10 +191,17 @@ contract-contract-cached-requires t c κs =
     let g = start .pre .1 .0 in
     let v = lowest .before .before .before .if1 .left in
     let w = lowest .before .before .if2 .left in (
-      omega (arith, contract-reduced-measure g (start .pre .1 .1) v w (lowest .lowest .ensures .0) (rest .before .factored .ensures) (rest .from .ensures), start .pre .0),
+      omega (
+        arith,
+        contract-reduced-measure g (start .pre .1 .1) v w (lowest .lowest .ensures .0)
+            (rest .before .factored .ensures) (rest .from .ensures),
+        start .pre .0,
+      ),
       (
-        contract-reduced-ready g (start .pre .1 .1) v w (lowest .lowest .ensures .0) (rest .before .factored .ensures) (rest .from .ensures),
-        contract-reduced-some g (start .pre .1 .1) v w (lowest .lowest .ensures .0) (rest .before .factored .ensures) (rest .from .ensures)
+        contract-reduced-ready g (start .pre .1 .1) v w (lowest .lowest .ensures .0) (rest .before .factored .ensures)
+            (rest .from .ensures),
+        contract-reduced-some g (start .pre .1 .1) v w (lowest .lowest .ensures .0) (rest .before .factored .ensures)
+            (rest .from .ensures)
             (λ z. elim (tests .if3 .came) [ inl p ↦ p .1 .left | inr q ↦ absurd (q .left z) ]),
       ),
     )
@@ -207,10 +221,10 @@ contract-returns-5 t c =
     let rest = cached .before .before .before .before in
     let lowest = rest .before .before in
     let start = lowest .before .before .before .before .before .before in
-    contract-times (start .pre .1 .0) (start .pre .1 .1) (lowest .before .before .before .if1 .left) (lowest .before .before .if2 .left)
-    (lowest .lowest .ensures .0) (rest .before .factored .ensures) (rest .from .ensures)
-    (cached .contract-cached .last .1 .0) (cached .contract-cached .last .0) (cached .contract-cached .result) (c .times .result)
-    (cached .contract-cached .ensures) (c .times .ensures)
+    contract-times (start .pre .1 .0) (start .pre .1 .1) (lowest .before .before .before .if1 .left)
+    (lowest .before .before .if2 .left) (lowest .lowest .ensures .0) (rest .before .factored .ensures)
+    (rest .from .ensures) (cached .contract-cached .last .1 .0) (cached .contract-cached .last .0)
+    (cached .contract-cached .result) (c .times .result) (cached .contract-cached .ensures) (c .times .ensures)
 
 contract-cached-lookup-requires : (t : ℕ)
     → contract-cached-lts.Need-lookup-requires (contract-cached-claims t) (contract-cached-at t) contract-cached.Post
@@ -229,14 +243,16 @@ contract-cached-returns : (t : ℕ)
 contract-cached-returns t c =
     let lookup = c .before .before .before in
     let pre = lookup .before .before .before .before .pre .1 in
-    cached-hit (pre .0) (contract-key-step (pre .0) (pre .1)) (lookup-is _ (lookup .lookup .ensures) (c .before .e .given .1))
+    cached-hit (pre .0) (contract-key-step (pre .0) (pre .1))
+    (lookup-is _ (lookup .lookup .ensures) (c .before .e .given .1))
 
 contract-cached-enum-told : (t : ℕ)
     → contract-cached-lts.Need-enum-told (contract-cached-claims t) (contract-cached-at t) contract-cached.Post
 contract-cached-enum-told t c = search needs
 
 contract-cached-contract-split-requires :
-    (t : ℕ) → contract-cached-lts.Need-contract-split-requires (contract-cached-claims t) (contract-cached-at t) contract-cached.Post
+    (t : ℕ) → contract-cached-lts.Need-contract-split-requires (contract-cached-claims t) (contract-cached-at t)
+    contract-cached.Post
 contract-cached-contract-split-requires t c κs = search needs
 
 contract-cached-keep-requires : (t : ℕ)
@@ -257,9 +273,9 @@ contract-cached-returns-2 t c =
     let keep = c .before .before in
     let split = keep .before .before .before .before .before .before in
     let pre = split .before .before .before .before .before .before .before .before .before .pre .1 in
-    cached-kept (split .contract-split .last .1 .0) (keep .keep .last .0) (split .contract-split .last .0) _ _ (split .contract-split .result)
-    (pre .0) (contract-key-step (pre .0) (pre .1)) (pre .0 .left .within) (pre .0 .right .within) (contract-known (pre .0) (pre .1))
-    (split .contract-split .ensures) (keep .keep .ensures)
+    cached-kept (split .contract-split .last .1 .0) (keep .keep .last .0) (split .contract-split .last .0) _ _
+    (split .contract-split .result) (pre .0) (contract-key-step (pre .0) (pre .1)) (pre .0 .left .within)
+    (pre .0 .right .within) (contract-known (pre .0) (pre .1)) (split .contract-split .ensures) (keep .keep .ensures)
 
 contract-high-without-requires : (t : ℕ)
     → contract-high-lts.Need-without-requires (contract-high-claims t) (contract-high-at t) contract-high.Post
@@ -280,7 +296,11 @@ contract-high-contract-requires t c κs =
     let first = second .before .before in
     let start = first .before .before .before .before .before in
     let w = start .pre .1 .0 in (
-      omega (arith, part-less (w .ready) (w .inside) (w .lowest) (first .cofactor .ensures) (second .cofactor2 .ensures), start .pre .0),
+      omega (
+        arith,
+        part-less (w .ready) (w .inside) (w .lowest) (first .cofactor .ensures) (second .cofactor2 .ensures),
+        start .pre .0,
+      ),
       (
         part-ready (w .ready) (w .inside) (w .lowest) (first .cofactor .ensures) (second .cofactor2 .ensures),
         omega (arith, first .before .before .without .ensures .most, start .pre .1 .1),
@@ -315,8 +335,9 @@ contract-high-meet-requires t c κs =
     let first = second .before .before in
     let without = first .before .before in
     let start = without .before .before .before in
-    contract-meetable (start .pre .1 .0) (without .without .ensures) (first .cofactor .ensures) (second .cofactor2 .ensures)
-    (high .contract .last .1 .0) (high .contract .last .0) (high .contract .result) (high .contract .ensures) (c .before .before .before .h .given .1)
+    contract-meetable (start .pre .1 .0) (without .without .ensures) (first .cofactor .ensures)
+    (second .cofactor2 .ensures) (high .contract .last .1 .0) (high .contract .last .0) (high .contract .result)
+    (high .contract .ensures) (c .before .before .before .h .given .1)
 
 contract-high-same-length-3 : (t : ℕ)
     → contract-high-lts.Need-same-length-3 (contract-high-claims t) (contract-high-at t) contract-high.Post
@@ -335,10 +356,10 @@ contract-high-returns-2 t c =
     let first = second .before .before in
     let without = first .before .before in
     let start = without .before .before .before in
-    contract-high-refines (start .pre .1 .0) (without .without .ensures) (first .cofactor .ensures) (second .cofactor2 .ensures)
-    (high .contract .last .1 .0) (high .contract .last .0) (high .contract .result) (high .contract .ensures)
-    (meet .before .before .before .before .h .given .1)
-    (meet .meet .last .1 .0) (meet .meet .last .0) (meet .meet .result) (meet .meet .ensures)
+    contract-high-refines (start .pre .1 .0) (without .without .ensures) (first .cofactor .ensures)
+    (second .cofactor2 .ensures) (high .contract .last .1 .0) (high .contract .last .0) (high .contract .result)
+    (high .contract .ensures) (meet .before .before .before .before .h .given .1) (meet .meet .last .1 .0)
+    (meet .meet .last .0) (meet .meet .result) (meet .meet .ensures)
 
 contract-split-lowest-requires : (t : ℕ)
     → contract-split-lts.Need-lowest-requires (contract-split-claims t) (contract-split-at t) contract-split.Post
@@ -366,7 +387,11 @@ contract-split-contract-requires t c κs =
     let start = lowest .before .before .before .before in
     let g = start .pre .1 .0 in
     let k = inside g (start .pre .1 .1 .some) (lowest .lowest .ensures .0) in (
-      omega (arith, part-less g k (lowest .lowest .ensures .0) (first .cofactor .ensures) (second .cofactor2 .ensures), start .pre .0),
+      omega (
+        arith,
+        part-less g k (lowest .lowest .ensures .0) (first .cofactor .ensures) (second .cofactor2 .ensures),
+        start .pre .0,
+      ),
       (
         part-ready g k (lowest .lowest .ensures .0) (first .cofactor .ensures) (second .cofactor2 .ensures),
         omega (arith, without .without .ensures .most, start .pre .1 .1 .mask),
@@ -398,8 +423,9 @@ contract-split-returns t c =
     let without = first .before .before in
     let lowest = without .before in
     let start = lowest .before .before .before .before in
-    contract-low-full (start .pre .1 .0) (start .pre .1 .1) (lowest .lowest .ensures .0) (without .without .ensures) (first .cofactor .ensures)
-    (second .cofactor2 .ensures) (low .contract .last .1 .0) (low .contract .last .0) (low .contract .result) (low .contract .ensures) (search needs)
+    contract-low-full (start .pre .1 .0) (start .pre .1 .1) (lowest .lowest .ensures .0) (without .without .ensures)
+    (first .cofactor .ensures) (second .cofactor2 .ensures) (low .contract .last .1 .0) (low .contract .last .0)
+    (low .contract .result) (low .contract .ensures) (search needs)
 
 contract-split-contract-high-requires : (t : ℕ)
     → contract-split-lts.Need-contract-high-requires (contract-split-claims t) (contract-split-at t) contract-split.Post
@@ -411,12 +437,16 @@ contract-split-contract-high-requires t c κs =
     let lowest = without .before in
     let start = lowest .before .before .before .before in
     let l = c .before .before .before .l .given .1 in
-    let same = contract-measure (start .pre .1 .0) (start .pre .1 .1) (lowest .lowest .ensures .0) (without .without .ensures) (first .cofactor .ensures)
-    (second .cofactor2 .ensures) (low .contract .last .1 .0) (low .contract .last .0) (low .contract .result) (low .contract .ensures) l in (
+    let same = contract-measure (start .pre .1 .0) (start .pre .1 .1) (lowest .lowest .ensures .0)
+    (without .without .ensures) (first .cofactor .ensures) (second .cofactor2 .ensures) (low .contract .last .1 .0)
+    (low .contract .last .0) (low .contract .result)
+    (low .contract .ensures) l in (
       omega (arith, same, start .pre .0),
       (
-        contract-high-ready (start .pre .1 .0) (start .pre .1 .1) (lowest .lowest .ensures .0) (without .without .ensures) (first .cofactor .ensures)
-            (second .cofactor2 .ensures) (low .contract .last .1 .0) (low .contract .last .0) (low .contract .result) (low .contract .ensures) l,
+        contract-high-ready (start .pre .1 .0) (start .pre .1 .1) (lowest .lowest .ensures .0)
+            (without .without .ensures) (first .cofactor .ensures) (second .cofactor2 .ensures)
+            (low .contract .last .1 .0) (low .contract .last .0) (low .contract .result)
+            (low .contract .ensures) l,
         start .pre .1 .1 .mask,
       ),
     )
@@ -439,14 +469,16 @@ contract-split-returns-2 t c =
     let without = first .before .before in
     let lowest = without .before in
     let start = lowest .before .before .before .before in
-    contract-low-refines (start .pre .1 .0) (start .pre .1 .1) (lowest .lowest .ensures .0) (without .without .ensures) (first .cofactor .ensures)
-    (second .cofactor2 .ensures) (low .contract .last .1 .0) (low .contract .last .0) (low .contract .result) (low .contract .ensures)
-    (high .before .before .before .before .l .given .1)
-    (high .contract-high .last .1 .0) (high .contract-high .last .0) (high .contract-high .result) (high .contract-high .ensures)
+    contract-low-refines (start .pre .1 .0) (start .pre .1 .1) (lowest .lowest .ensures .0) (without .without .ensures)
+    (first .cofactor .ensures) (second .cofactor2 .ensures) (low .contract .last .1 .0) (low .contract .last .0)
+    (low .contract .result) (low .contract .ensures) (high .before .before .before .before .l .given .1)
+    (high .contract-high .last .1 .0) (high .contract-high .last .0) (high .contract-high .result)
+    (high .contract-high .ensures)
 
 pub +contract+contract-cached+contract-high+contract-split-spec : {M : Type 1} → statement M
 +contract+contract-cached+contract-high+contract-split-spec =
-    close μ-contract μ-contract-cached μ-contract-high μ-contract-split (λ t. contract-lts.spec (contract-claims t) (contract-at t)
+    close μ-contract μ-contract-cached μ-contract-high μ-contract-split
+    (λ t. contract-lts.spec (contract-claims t) (contract-at t)
     contract.Post
     (contract-returns t)
     (contract-returns-2 t)

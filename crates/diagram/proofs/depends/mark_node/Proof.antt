@@ -16,5 +16,6 @@ pub mark-node-spec : {M : Type 1} → statement M
 mark-node-spec =
     tie.close
     (tie.spec
-    (λ c κs. search needs) mark-requires mark-requires-2 (λ c κs. search needs) (λ c. search needs) (λ c κs. search needs)
+    (λ c κs. search needs) mark-requires mark-requires-2 (λ c κs. search needs) (λ c. search needs)
+    (λ c κs. search needs)
     (λ c. search needs) returns)

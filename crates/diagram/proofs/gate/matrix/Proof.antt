@@ -8,8 +8,9 @@ pub matrix-spec : {M : Type 1} → statement M
 matrix-spec =
     tie.close
     (tie.spec
-    (λ c. search needs) (λ c. search needs) (λ c. search needs) (λ c. search needs) (λ c. search needs) (λ c. search needs)
     (λ c. search needs) (λ c. search needs) (λ c. search needs) (λ c. search needs) (λ c. search needs)
-    (λ c. search (needs, as-matrix)) (λ c. search (needs, as-matrix)) (λ c. search (needs, as-matrix)) (λ c. search (needs, as-matrix))
-    (λ c. search (needs, as-matrix)) (λ c. search (needs, as-matrix)) (λ c. search (needs, as-matrix)) (λ c. search (needs, as-matrix))
+    (λ c. search needs) (λ c. search needs) (λ c. search needs) (λ c. search needs) (λ c. search needs)
+    (λ c. search needs) (λ c. search (needs, as-matrix)) (λ c. search (needs, as-matrix))
+    (λ c. search (needs, as-matrix)) (λ c. search (needs, as-matrix)) (λ c. search (needs, as-matrix))
+    (λ c. search (needs, as-matrix)) (λ c. search (needs, as-matrix)) (λ c. search (needs, as-matrix))
     (λ c. search (needs, as-matrix)) (λ c. search (needs, as-matrix)) (λ c. search (needs, as-matrix)))

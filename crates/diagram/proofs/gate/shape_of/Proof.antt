@@ -8,8 +8,9 @@ pub shape-of-spec : {M : Type 1} → statement M
 shape-of-spec =
     tie.close
     (tie.spec
-    (λ c. search needs) (λ c. search needs) (λ c. search needs) (λ c. search needs) (λ c. search needs) (λ c. search needs)
     (λ c. search needs) (λ c. search needs) (λ c. search needs) (λ c. search needs) (λ c. search needs)
-    (λ c. search (needs, as-shape)) (λ c. search (needs, as-shape)) (λ c. search (needs, as-shape)) (λ c. search (needs, as-shape))
-    (λ c. search (needs, as-shape)) (λ c. search (needs, as-shape)) (λ c. search (needs, as-shape)) (λ c. search (needs, as-shape))
+    (λ c. search needs) (λ c. search needs) (λ c. search needs) (λ c. search needs) (λ c. search needs)
+    (λ c. search needs) (λ c. search (needs, as-shape)) (λ c. search (needs, as-shape)) (λ c. search (needs, as-shape))
+    (λ c. search (needs, as-shape)) (λ c. search (needs, as-shape)) (λ c. search (needs, as-shape))
+    (λ c. search (needs, as-shape)) (λ c. search (needs, as-shape))
     (λ c. search (needs, as-shape)) (λ c. search (needs, as-shape)) (λ c. search (needs, as-shape)))

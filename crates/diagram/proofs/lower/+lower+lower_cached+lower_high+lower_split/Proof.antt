@@ -130,7 +130,11 @@ lower-lower-cached-requires t c κs =
     let top = c .before .before .before in
     let start = top .before .before .before .before in
     let pre = start .pre .1 in (
-      omega (arith, lower-reduced-measure (pre .0) (pre .1) (top .top .ensures .0) (c .before .before .if1 .left), start .pre .0),
+      omega (
+        arith,
+        lower-reduced-measure (pre .0) (pre .1) (top .top .ensures .0) (c .before .before .if1 .left),
+        start .pre .0,
+      ),
       (
         lower-reduced-ready (pre .0) (pre .1) (top .top .ensures .0) (c .before .before .if1 .left),
         lower-reduced (pre .0) (pre .1) (top .top .ensures .0) (c .before .before .if1 .left),
@@ -177,7 +181,8 @@ lower-cached-returns t c =
     let lookup = c .before .before .before in
     let wide = lookup .before .before in
     let pre = wide .before .before .before .pre .1 in
-    cached-hit (pre .0) (lower-key-step (pre .0) (pre .1) (wide .wide .ensures)) (lookup-is _ (lookup .lookup .ensures) (c .before .e .given .1))
+    cached-hit (pre .0) (lower-key-step (pre .0) (pre .1) (wide .wide .ensures))
+    (lookup-is _ (lookup .lookup .ensures) (c .before .e .given .1))
 
 lower-cached-enum-told : (t : ℕ)
     → lower-cached-lts.Need-enum-told (lower-cached-claims t) (lower-cached-at t) lower-cached.Post
@@ -206,9 +211,10 @@ lower-cached-returns-2 t c =
     let split = keep .before .before .before .before .before .before in
     let wide = split .before .before .before .before .before .before .before in
     let pre = wide .before .before .before .pre .1 in
-    cached-kept (split .lower-split .last .1 .0) (keep .keep .last .0) (split .lower-split .last .0) _ _ (split .lower-split .result)
-    (pre .0) (lower-key-step (pre .0) (pre .1) (wide .wide .ensures)) (pre .0 .left .within) (pre .0 .left .within) (lower-known (pre .0) (pre .1))
-    (split .lower-split .ensures) (keep .keep .ensures)
+    cached-kept (split .lower-split .last .1 .0) (keep .keep .last .0) (split .lower-split .last .0) _ _
+    (split .lower-split .result) (pre .0) (lower-key-step (pre .0) (pre .1) (wide .wide .ensures))
+    (pre .0 .left .within) (pre .0 .left .within) (lower-known (pre .0) (pre .1)) (split .lower-split .ensures)
+    (keep .keep .ensures)
 
 lower-high-cofactor-requires : (t : ℕ)
     → lower-high-lts.Need-cofactor-requires (lower-high-claims t) (lower-high-at t) lower-high.Post
@@ -221,7 +227,11 @@ lower-high-lower-requires t c κs =
     let start = first .before .before .before .before in
     let w = start .pre .1 .0 in
     let x = start .pre .1 .1 in (
-      omega (arith, part-less (w .ready) (w .inside) (w .lowest) (first .cofactor .ensures) (first .cofactor .ensures), start .pre .0),
+      omega (
+        arith,
+        part-less (w .ready) (w .inside) (w .lowest) (first .cofactor .ensures) (first .cofactor .ensures),
+        start .pre .0,
+      ),
       (
         part-ready (w .ready) (w .inside) (w .lowest) (first .cofactor .ensures) (first .cofactor .ensures),
         lower-part (w .ready) (w .lowest) x (first .cofactor .ensures),
@@ -253,7 +263,8 @@ lower-high-join-requires t c κs =
     let first = high .before .before .before in
     let start = first .before .before .before .before in
     lower-joinable (start .pre .1 .0) (start .pre .1 .1) (first .cofactor .ensures)
-    (high .lower .last .1 .0) (high .lower .last .0) (high .lower .result) (high .lower .ensures) (c .before .before .h .given .1)
+    (high .lower .last .1 .0) (high .lower .last .0) (high .lower .result) (high .lower .ensures)
+    (c .before .before .h .given .1)
 
 lower-high-same-length-3 : (t : ℕ)
     → lower-high-lts.Need-same-length-3 (lower-high-claims t) (lower-high-at t) lower-high.Post
@@ -270,8 +281,8 @@ lower-high-returns-2 t c =
     let first = high .before .before .before in
     let start = first .before .before .before .before in
     lower-high-refines (start .pre .1 .0) (start .pre .1 .1) (first .cofactor .ensures)
-    (high .lower .last .1 .0) (high .lower .last .0) (high .lower .result) (high .lower .ensures) (join .before .before .before .h .given .1)
-    (join .join .last .0) (join .join .result) (join .join .ensures)
+    (high .lower .last .1 .0) (high .lower .last .0) (high .lower .result) (high .lower .ensures)
+    (join .before .before .before .h .given .1) (join .join .last .0) (join .join .result) (join .join .ensures)
 
 lower-split-top-requires : (t : ℕ)
     → lower-split-lts.Need-top-requires (lower-split-claims t) (lower-split-at t) lower-split.Post
@@ -310,7 +321,11 @@ lower-split-lower-requires t c κs =
     let g = start .pre .1 .0 in
     let x = start .pre .1 .1 in
     let k = top .top .ensures .0 in (
-      omega (arith, part-less g (lower-inside g x k) (lower-lowest g x k) (first .cofactor .ensures) (first .cofactor .ensures), start .pre .0),
+      omega (
+        arith,
+        part-less g (lower-inside g x k) (lower-lowest g x k) (first .cofactor .ensures) (first .cofactor .ensures),
+        start .pre .0,
+      ),
       (
         part-ready g (lower-inside g x k) (lower-lowest g x k) (first .cofactor .ensures) (first .cofactor .ensures),
         lower-part g (lower-lowest g x k) (lower-between g x k (test .if1 .left)) (first .cofactor .ensures),
@@ -376,9 +391,10 @@ lower-split-returns-3 t c =
     let first = test .before in
     let top = first .before .before in
     let start = top .before .before .before .before in
-    lower-low-refines (start .pre .1 .0) (start .pre .1 .1) (top .top .ensures .0) (test .if1 .left) (first .cofactor .ensures)
-    (low .lower .last .1 .0) (low .lower .last .0) (low .lower .result) (low .lower .ensures) (high .before .before .before .before .l .given .1)
-    (high .lower-high .last .1 .0) (high .lower-high .last .0) (high .lower-high .result) (high .lower-high .ensures)
+    lower-low-refines (start .pre .1 .0) (start .pre .1 .1) (top .top .ensures .0) (test .if1 .left)
+    (first .cofactor .ensures) (low .lower .last .1 .0) (low .lower .last .0) (low .lower .result) (low .lower .ensures)
+    (high .before .before .before .before .l .given .1) (high .lower-high .last .1 .0) (high .lower-high .last .0)
+    (high .lower-high .result) (high .lower-high .ensures)
 
 pub +lower+lower-cached+lower-high+lower-split-spec : {M : Type 1} → statement M
 +lower+lower-cached+lower-high+lower-split-spec =

@@ -26,5 +26,6 @@ pub make-spec : {M : Type 1} → statement M
 make-spec =
     tie.close
     (tie.spec
-    (λ c κs. search needs) (λ c. search needs) returns find-requires (λ c. search needs) returns-2 (λ c. search needs) returns-3
+    (λ c κs. search needs) (λ c. search needs) returns find-requires (λ c. search needs) returns-2 (λ c. search needs)
+    returns-3
     append-requires (λ c. search needs) (λ c κs. search needs) (λ c. search needs) returns-4)

@@ -4,23 +4,31 @@ use Rattle.diagram.proofs.mark.look.Statement.{statement}
 use Rattle.diagram.proofs.mark.look.Tie as tie
 
 returns : tie.Need-returns
-returns c = let start = c .before .before .before .before in look-dead (c .before .get .ensures .0) (start .pre .0 .first) (start .pre .1 .0) (c .if1 .taken)
+returns c = let start = c .before .before .before .before in look-dead (c .before .get .ensures .0)
+    (start .pre .0 .first) (start .pre .1 .0) (c .if1 .taken)
 
 mark-requires : tie.Need-mark-requires
 mark-requires c κs =
     rw (c .before .read .ensures .0) (c .before .before .before .before .before .before .before .pre .1 .1 .low-within)
 
 mark-requires-2 : tie.Need-mark-requires-2
-mark-requires-2 c κs = rw (c .before .before .before .mark .ensures .long, c .before .before .before .before .before .read .ensures .0) (c .before .before .before .before .before .before .before .before .before .before .before .pre .1 .1 .high-within)
+mark-requires-2 c κs = rw (
+  c .before .before .before .mark .ensures .long,
+  c .before .before .before .before .before .read .ensures .0,
+) (c .before .before .before .before .before .before .before .before .before .before .before .pre .1 .1 .high-within)
 
 returns-2 : tie.Need-returns-2
 returns-2 c =
-    let start = c .before .before .before .before .before .before .before .before .before .before .before .before .before .before in
-    look-live (c .before .before .before .before .before .before .before .before .before .before .before .get .ensures .0) (start .pre .0 .first) (start .pre .1 .0) (c .before .before .before .before .before .before .before .before .before .before .if1 .left) (c .before .before .before .before .before .before .before .before .read .ensures .0) (c .before .before .before .before .before .before .mark .ensures) (c .before .before .mark2 .ensures)
+    let read = c .before .before .before .before .before .before .before .before in
+    let start = read .before .before .before .before .before .before in
+    look-live (read .before .before .before .get .ensures .0) (start .pre .0 .first) (start .pre .1 .0)
+    (read .before .before .if1 .left) (read .read .ensures .0)
+    (c .before .before .before .before .before .before .mark .ensures) (c .before .before .mark2 .ensures)
 
 pub look-spec : {M : Type 1} → statement M
 look-spec =
     tie.close
     (tie.spec
-    (λ c. search needs) (λ c κs. search needs) (λ c. search needs) returns (λ c κs. search needs) mark-requires mark-requires-2
+    (λ c. search needs) (λ c κs. search needs) (λ c. search needs) returns (λ c κs. search needs) mark-requires
+    mark-requires-2
     (λ c. search needs) returns-2)

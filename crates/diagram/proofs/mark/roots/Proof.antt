@@ -34,8 +34,12 @@ loop-less c = omega arith
 
 loop-again : tie.Need-loop-again Inv-loop μ-loop
 loop-again c =
-    let loop = c .before .before .before .before .before .before in
-    (roots-on _ (omega (arith, loop .before .before .before .pre .1 .sixteen)) refl (c .before .before .root .ensures) (loop .loop .inv .0), omega arith, c .before .before .root .kept .0 ∙ loop .loop .inv .2)
+    let loop = c .before .before .before .before .before .before in (
+      roots-on _ (omega (arith, loop .before .before .before .pre .1 .sixteen)) refl (c .before .before .root .ensures)
+          (loop .loop .inv .0),
+      omega arith,
+      c .before .before .root .kept .0 ∙ loop .loop .inv .2,
+    )
 
 same-length : tie.Need-same-length Inv-loop μ-loop
 same-length c = c .before .loop .inv .2
@@ -47,4 +51,5 @@ pub roots-spec : {M : Type 1} → statement M
 roots-spec =
     tie.close
     (tie.spec
-    Inv-loop μ-loop loop-holds (λ c. search needs) (λ c. search needs) root-requires add-i loop-less loop-again same-length returns)
+    Inv-loop μ-loop loop-holds (λ c. search needs) (λ c. search needs) root-requires add-i loop-less loop-again
+    same-length returns)

@@ -25,7 +25,8 @@ look-requires c κs =
       omega (arith, start .pre .0, loop .loop .inv),
       (
         loop .loop .inv .1,
-        children-within (start .pre .1) (loop .loop .inv .0 .kept) (c .before .loop-test .taken) (loop .loop .inv .1) (omega (arith, start .pre .0, loop .loop .inv .2)),
+        children-within (start .pre .1) (loop .loop .inv .0 .kept) (c .before .loop-test .taken) (loop .loop .inv .1)
+            (omega (arith, start .pre .0, loop .loop .inv .2)),
       ),
     )
 
@@ -37,8 +38,11 @@ loop-less c = omega arith
 
 loop-again : tie.Need-loop-again Inv-loop μ-loop
 loop-again c =
-    let loop = c .before .before .before .before .before in let start = loop .before .before in
-    (c .before .before .look .ensures .on _ _ (start .pre .1) (loop .loop .inv .0), omega arith, c .before .before .look .kept .0 ∙ loop .loop .inv .2)
+    let loop = c .before .before .before .before .before in let start = loop .before .before in (
+      c .before .before .look .ensures .on _ _ (start .pre .1) (loop .loop .inv .0),
+      omega arith,
+      c .before .before .look .kept .0 ∙ loop .loop .inv .2,
+    )
 
 same-length : tie.Need-same-length Inv-loop μ-loop
 same-length c = c .before .loop .inv .2

@@ -27,8 +27,11 @@ loop-again : tie.Need-loop-again Inv-loop μ-loop
 loop-again c =
     let loop = c .before .before .before .before .before in
     let start = loop .before .before in
-    let room : 16 * (loop .loop .m + 1) ≤ length (loop .loop .s) = omega (arith, start .pre, loop .loop .inv .2) in
-    (rw (c .before .before .set .ensures) (unmark-on room (loop .loop .inv .0)), omega arith, c .before .before .set .kept .0 ∙ loop .loop .inv .2)
+    let room : 16 * (loop .loop .m + 1) ≤ length (loop .loop .s) = omega (arith, start .pre, loop .loop .inv .2) in (
+      rw (c .before .before .set .ensures) (unmark-on room (loop .loop .inv .0)),
+      omega arith,
+      c .before .before .set .kept .0 ∙ loop .loop .inv .2,
+    )
 
 same-length : tie.Need-same-length Inv-loop μ-loop
 same-length c = c .before .loop .inv .2
@@ -39,4 +42,5 @@ returns c =
     rw done at (c .before .loop .inv .0)
 
 pub unmark-spec : {M : Type 1} → statement M
-unmark-spec = tie.close (tie.spec Inv-loop μ-loop loop-holds (λ c κs. search needs) add-m loop-less loop-again same-length returns)
+unmark-spec = tie.close (tie.spec Inv-loop μ-loop loop-holds (λ c κs. search needs) add-m loop-less loop-again
+    same-length returns)

@@ -26,4 +26,5 @@ returns c =
 
 pub doubled-spec : {M : Type 1} → statement M
 doubled-spec =
-    tie.close (tie.spec Inv-loop μ-loop loop-holds (λ c κs. search needs) (λ c. search needs) (λ c. search needs) loop-again returns)
+    tie.close (tie.spec Inv-loop μ-loop loop-holds (λ c κs. search needs) (λ c. search needs) (λ c. search needs)
+    loop-again returns)

@@ -18,4 +18,5 @@ pub rollback-spec : {M : Type 1} → statement M
 rollback-spec =
     tie.close
     (tie.spec
-    (λ c κs. search needs) rebuild-requires (λ c. search needs) (λ c. search needs) returns (λ c. search needs) returns-2)
+    (λ c κs. search needs) rebuild-requires (λ c. search needs) (λ c. search needs) returns (λ c. search needs)
+    returns-2)

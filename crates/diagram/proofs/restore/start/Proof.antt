@@ -14,4 +14,5 @@ pub start-spec : {M : Type 1} → statement M
 start-spec =
     tie.close
     (tie.spec
-    (λ c κs. search needs) (λ c κs. search needs) (λ c. search needs) (λ c. search needs) returns (λ c. search needs) returns-2)
+    (λ c κs. search needs) (λ c κs. search needs) (λ c. search needs) (λ c. search needs) returns (λ c. search needs)
+    returns-2)

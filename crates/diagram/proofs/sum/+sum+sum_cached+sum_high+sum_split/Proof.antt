@@ -99,8 +99,16 @@ sum-high-claims t =
     (cofactor-reads.Asked, cofactor-reads.Learnt, sum-below t, sum.Post, join-reads.Asked, join-reads.Learnt)
 
 abbrev sum-split-claims : ℕ → sum-split-lts.Claims
-sum-split-claims t =
-    (lowest-reads.Asked, lowest-reads.Learnt, cofactor-reads.Asked, cofactor-reads.Learnt, sum-below t, sum.Post, sum-high-below t, sum-high.Post)
+sum-split-claims t = (
+  lowest-reads.Asked,
+  lowest-reads.Learnt,
+  cofactor-reads.Asked,
+  cofactor-reads.Learnt,
+  sum-below t,
+  sum.Post,
+  sum-high-below t,
+  sum-high.Post,
+)
 
 sum-returns : (t : ℕ) → sum-lts.Need-returns (sum-claims t) (sum-at t) sum.Post
 sum-returns t c = search (needs, sum-left)
@@ -128,7 +136,11 @@ sum-sum-cached-requires t c κs =
     let g = start .pre .1 in
     let a = tests .before .before .if1 .left in
     let b = tests .before .if2 .left in (
-      omega (arith, sum-reduced-measure g a b (tests .if3 .left) (mul .before .inverse .ensures) (mul .mul .ensures), start .pre .0),
+      omega (
+        arith,
+        sum-reduced-measure g a b (tests .if3 .left) (mul .before .inverse .ensures) (mul .mul .ensures),
+        start .pre .0,
+      ),
       search
           (needs, sum-reduced-ready, sum-reduced),
     )
@@ -148,10 +160,9 @@ sum-returns-4 t c =
     let mul = cached .before .before .before in
     let tests = mul .before .before in
     let start = tests .before .before .before .before .before in
-    sum-times (start .pre .1) (tests .before .before .if1 .left) (tests .before .if2 .left) (tests .if3 .left) (mul .before .inverse .ensures)
-    (mul .mul .ensures)
-    (cached .sum-cached .last .1 .0) (cached .sum-cached .last .0) (cached .sum-cached .result) (c .times .result) (cached .sum-cached .ensures)
-    (c .times .ensures)
+    sum-times (start .pre .1) (tests .before .before .if1 .left) (tests .before .if2 .left) (tests .if3 .left)
+    (mul .before .inverse .ensures) (mul .mul .ensures) (cached .sum-cached .last .1 .0) (cached .sum-cached .last .0)
+    (cached .sum-cached .result) (c .times .result) (cached .sum-cached .ensures) (c .times .ensures)
 
 sum-cached-lookup-requires : (t : ℕ)
     → sum-cached-lts.Need-lookup-requires (sum-cached-claims t) (sum-cached-at t) sum-cached.Post
@@ -169,7 +180,8 @@ sum-cached-returns : (t : ℕ) → sum-cached-lts.Need-returns (sum-cached-claim
 sum-cached-returns t c =
     let lookup = c .before .before .before in
     let start = lookup .before .before .before .before in
-    cached-hit (start .pre .1 .0) (sum-key-step (start .pre .1 .0) (start .pre .1 .1)) (lookup-is _ (lookup .lookup .ensures) (c .before .e .given .1))
+    cached-hit (start .pre .1 .0) (sum-key-step (start .pre .1 .0) (start .pre .1 .1))
+    (lookup-is _ (lookup .lookup .ensures) (c .before .e .given .1))
 
 sum-cached-enum-told : (t : ℕ) → sum-cached-lts.Need-enum-told (sum-cached-claims t) (sum-cached-at t) sum-cached.Post
 sum-cached-enum-told t c = search needs
@@ -195,9 +207,10 @@ sum-cached-returns-2 t c =
     let keep = c .before .before in
     let split = keep .before .before .before .before .before .before in
     let start = split .before .before .before .before .before .before .before .before .before in
-    cached-kept (split .sum-split .last .1 .0) (keep .keep .last .0) (split .sum-split .last .0) _ _ (split .sum-split .result) (start .pre .1 .0)
-    (sum-key-step (start .pre .1 .0) (start .pre .1 .1)) (start .pre .1 .0 .left .within) (start .pre .1 .0 .right .within)
-    (sum-known (start .pre .1 .0) (start .pre .1 .1)) (split .sum-split .ensures) (keep .keep .ensures)
+    cached-kept (split .sum-split .last .1 .0) (keep .keep .last .0) (split .sum-split .last .0) _ _
+    (split .sum-split .result) (start .pre .1 .0) (sum-key-step (start .pre .1 .0) (start .pre .1 .1))
+    (start .pre .1 .0 .left .within) (start .pre .1 .0 .right .within) (sum-known (start .pre .1 .0) (start .pre .1 .1))
+    (split .sum-split .ensures) (keep .keep .ensures)
 
 sum-high-cofactor-requires : (t : ℕ)
     → sum-high-lts.Need-cofactor-requires (sum-high-claims t) (sum-high-at t) sum-high.Post
@@ -212,9 +225,11 @@ sum-high-sum-requires t c κs =
     let second = c .before .before in
     let first = second .before .before in
     let start = first .before .before .before .before in
-    let less = part-less (start .pre .1 .ready) (start .pre .1 .inside) (start .pre .1 .lowest) (first .cofactor .ensures) (second .cofactor2 .ensures) in (
+    let less = part-less (start .pre .1 .ready) (start .pre .1 .inside) (start .pre .1 .lowest)
+    (first .cofactor .ensures) (second .cofactor2 .ensures) in (
       omega (arith, less, start .pre .0),
-      part-ready (start .pre .1 .ready) (start .pre .1 .inside) (start .pre .1 .lowest) (first .cofactor .ensures) (second .cofactor2 .ensures),
+      part-ready (start .pre .1 .ready) (start .pre .1 .inside) (start .pre .1 .lowest) (first .cofactor .ensures)
+          (second .cofactor2 .ensures),
     )
 
 sum-high-enum-known-h : (t : ℕ) → sum-high-lts.Need-enum-known-h (sum-high-claims t) (sum-high-at t) sum-high.Post
@@ -239,8 +254,8 @@ sum-high-join-requires t c κs =
     let first = second .before .before in
     let start = first .before .before .before .before in
     let h = c .before .before .h .given .1 in
-    sum-joinable (start .pre .1) (first .cofactor .ensures) (second .cofactor2 .ensures) (high .sum .last .1 .0) (high .sum .last .0)
-    (high .sum .result) (high .sum .ensures) h
+    sum-joinable (start .pre .1) (first .cofactor .ensures) (second .cofactor2 .ensures) (high .sum .last .1 .0)
+    (high .sum .last .0) (high .sum .result) (high .sum .ensures) h
 
 sum-high-same-length-3 : (t : ℕ) → sum-high-lts.Need-same-length-3 (sum-high-claims t) (sum-high-at t) sum-high.Post
 sum-high-same-length-3 t c = search needs
@@ -255,8 +270,9 @@ sum-high-returns-2 t c =
     let second = high .before .before .before in
     let first = second .before .before in
     let start = first .before .before .before .before in
-    sum-high-refines (start .pre .1) (first .cofactor .ensures) (second .cofactor2 .ensures) (high .sum .last .1 .0) (high .sum .last .0)
-    (high .sum .result) (high .sum .ensures) (join .before .before .before .h .given .1) (join .join .last .0) (join .join .result) (join .join .ensures)
+    sum-high-refines (start .pre .1) (first .cofactor .ensures) (second .cofactor2 .ensures) (high .sum .last .1 .0)
+    (high .sum .last .0) (high .sum .result) (high .sum .ensures) (join .before .before .before .h .given .1)
+    (join .join .last .0) (join .join .result) (join .join .ensures)
 
 sum-split-lowest-requires : (t : ℕ)
     → sum-split-lts.Need-lowest-requires (sum-split-claims t) (sum-split-at t) sum-split.Post
@@ -277,8 +293,12 @@ sum-split-sum-requires t c κs =
     let lowest = first .before .before in
     let start = lowest .before .before .before .before in
     let k = inside (start .pre .1 .0) (sum-some (start .pre .1 .0) (start .pre .1 .1)) (lowest .lowest .ensures .0) in
-    let less = part-less (start .pre .1 .0) k (lowest .lowest .ensures .0) (first .cofactor .ensures) (second .cofactor2 .ensures) in
-    (omega (arith, less, start .pre .0), part-ready (start .pre .1 .0) k (lowest .lowest .ensures .0) (first .cofactor .ensures) (second .cofactor2 .ensures))
+    let less = part-less (start .pre .1 .0) k (lowest .lowest .ensures .0) (first .cofactor .ensures)
+    (second .cofactor2 .ensures) in (
+      omega (arith, less, start .pre .0),
+      part-ready (start .pre .1 .0) k (lowest .lowest .ensures .0) (first .cofactor .ensures)
+          (second .cofactor2 .ensures),
+    )
 
 sum-split-enum-known-l : (t : ℕ) → sum-split-lts.Need-enum-known-l (sum-split-claims t) (sum-split-at t) sum-split.Post
 sum-split-enum-known-l t c = search needs
@@ -305,10 +325,12 @@ sum-split-sum-high-requires t c κs =
     let lowest = first .before .before in
     let start = lowest .before .before .before .before in
     let l = c .before .before .before .l .given .1 in
-    let same = sum-measure (start .pre .1 .0) (start .pre .1 .1) (lowest .lowest .ensures .0) (first .cofactor .ensures) (second .cofactor2 .ensures)
+    let same = sum-measure (start .pre .1 .0) (start .pre .1 .1) (lowest .lowest .ensures .0) (first .cofactor .ensures)
+    (second .cofactor2 .ensures)
     (low .sum .last .1 .0) (low .sum .last .0) (low .sum .result) (low .sum .ensures) l in (
       omega (arith, same, start .pre .0),
-      sum-high-ready (start .pre .1 .0) (start .pre .1 .1) (lowest .lowest .ensures .0) (first .cofactor .ensures) (second .cofactor2 .ensures)
+      sum-high-ready (start .pre .1 .0) (start .pre .1 .1) (lowest .lowest .ensures .0) (first .cofactor .ensures)
+          (second .cofactor2 .ensures)
           (low .sum .last .1 .0) (low .sum .last .0) (low .sum .result) (low .sum .ensures) l,
     )
 
@@ -328,10 +350,10 @@ sum-split-returns-2 t c =
     let first = second .before .before in
     let lowest = first .before .before in
     let start = lowest .before .before .before .before in
-    sum-low-refines (start .pre .1 .0) (start .pre .1 .1) (lowest .lowest .ensures .0) (first .cofactor .ensures) (second .cofactor2 .ensures)
-    (low .sum .last .1 .0) (low .sum .last .0) (low .sum .result) (low .sum .ensures)
-    (high .before .before .before .before .l .given .1) (high .sum-high .last .1 .0) (high .sum-high .last .0) (high .sum-high .result)
-    (high .sum-high .ensures)
+    sum-low-refines (start .pre .1 .0) (start .pre .1 .1) (lowest .lowest .ensures .0) (first .cofactor .ensures)
+    (second .cofactor2 .ensures) (low .sum .last .1 .0) (low .sum .last .0) (low .sum .result) (low .sum .ensures)
+    (high .before .before .before .before .l .given .1) (high .sum-high .last .1 .0) (high .sum-high .last .0)
+    (high .sum-high .result) (high .sum-high .ensures)
 
 pub +sum+sum-cached+sum-high+sum-split-spec : {M : Type 1} → statement M
 +sum+sum-cached+sum-high+sum-split-spec =

@@ -30,5 +30,6 @@ pub find-spec : {M : Type 1} → statement M
 find-spec =
     tie.close
     (tie.spec
-    Inv-loop μ-loop (λ c κs. search needs) (λ c κs. search needs) loop-holds (λ c κs. search needs) (λ c κs. search needs) returns
+    Inv-loop μ-loop (λ c κs. search needs) (λ c κs. search needs) loop-holds (λ c κs. search needs)
+    (λ c κs. search needs) returns
     (λ c. search needs) (λ c κs. search needs) loop-less loop-again returns-2)

@@ -12,5 +12,6 @@ pub hash-spec : {M : Type 1} → statement M
 hash-spec =
     tie.close
     (tie.spec
-    (λ c. search needs) (λ c. search needs) (λ c. search needs) (λ c. search needs) (λ c. search needs) (λ c. search needs)
+    (λ c. search needs) (λ c. search needs) (λ c. search needs) (λ c. search needs) (λ c. search needs)
+    (λ c. search needs)
     (λ c. search needs) (λ c. search needs) (λ c. search needs) returns)

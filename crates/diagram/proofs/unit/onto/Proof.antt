@@ -22,7 +22,8 @@ join-requires-3 c κs =
     let second = c .before .before in
     let first = second .before .before .before .before .before .before .before in
     let start = first .before .before .before .before .before .before .before in
-    let joins = onto-joins _ _ _ _ (start .pre) _ _ (first .before .before .before .before .join .ensures) (first .a .given .1) _ _
+    let joins = onto-joins _ _ _ _ (start .pre) _ _ (first .before .before .before .before .join .ensures)
+    (first .a .given .1) _ _
     (second .before .before .before .before .join2 .ensures) (second .b .given .1) in
     (joins .sound, joins .joinable)
 
@@ -39,6 +40,7 @@ pub onto-spec : {M : Type 1} → statement M
 onto-spec =
     tie.close
     (tie.spec
-    (λ c. search needs) (λ c. search needs) join-requires (λ c. search needs) (λ c. search needs) (λ c. search needs) returns
-    (λ c. search needs) (λ c. search needs) join-requires-2 (λ c. search needs) (λ c. search needs) (λ c. search needs) returns-2
+    (λ c. search needs) (λ c. search needs) join-requires (λ c. search needs) (λ c. search needs) (λ c. search needs)
+    returns (λ c. search needs) (λ c. search needs) join-requires-2 (λ c. search needs) (λ c. search needs)
+    (λ c. search needs) returns-2
     (λ c. search needs) join-requires-3 (λ c. search needs) returns-3)

@@ -17,5 +17,6 @@ pub low-spec : {M : Type 1} → statement M
 low-spec =
     tie.close
     (tie.spec
-    (λ c κs. search needs) (λ c. search needs) (λ c. search needs) (λ c. search needs) (λ c. search needs) depends-requires
+    (λ c κs. search needs) (λ c. search needs) (λ c. search needs) (λ c. search needs) (λ c. search needs)
+    depends-requires
     (λ c. search needs) returns-2 rename-requires (λ c. search needs) (λ c. search needs) (λ c. search needs))

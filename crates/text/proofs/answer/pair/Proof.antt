@@ -13,13 +13,15 @@ bytes-requires : tie.Need-bytes-requires
 bytes-requires c κs =
     let first = c .before .before .before .before in
     let start = first .before .before .before .before in
-    labelled-room (start .args .word .now) _ (start .pre .1 .0) (start .pre .1 .1) (start .pre .0) (first .labelled .ensures)
+    labelled-room (start .args .word .now) _ (start .pre .1 .0) (start .pre .1 .1) (start .pre .0)
+    (first .labelled .ensures)
 
 returns : tie.Need-returns
 returns c =
     let first = c .before .before .before .before .before .before .before in
     let start = first .before .before .before .before in
-    labelled-wrote _ _ (start .pre .1 .0) (start .pre .1 .1) (start .pre .0) (first .labelled .ensures) (c .before .before .bytes .ensures)
+    labelled-wrote _ _ (start .pre .1 .0) (start .pre .1 .1) (start .pre .0) (first .labelled .ensures)
+    (c .before .before .bytes .ensures)
 
 pub pair-spec : {M : Type 1} → statement M
 pair-spec = tie.close (tie.spec labelled-requires (λ c. search needs) bytes-requires (λ c. search needs) returns)

@@ -28,11 +28,13 @@ returns-2 : tie.Need-returns-2
 unfolding printed answerLine labelledLine
 returns-2 c =
     let number = c .before .before .before in
-    rw (number .before .before .before .before .answer2 .given .1, ← number .number-of .ensures .0) (c .before .before .pair2 .ensures)
+    rw (number .before .before .before .before .answer2 .given .1, ← number .number-of .ensures .0)
+    (c .before .before .pair2 .ensures)
 
 returns-3 : tie.Need-returns-3
 unfolding printed answerLine labelledLine
-returns-3 c = rw (c .before .before .before .before .before .before .answer3 .given .1) (c .before .before .pair3 .ensures)
+returns-3 c = rw (c .before .before .before .before .before .before .answer3 .given .1)
+    (c .before .before .pair3 .ensures)
 
 returns-4 : tie.Need-returns-4
 unfolding printed answerLine labelledLine
@@ -40,7 +42,8 @@ returns-4 c = rw (c .before .before .before .before .before .enum-told .given .1
 
 returns-5 : tie.Need-returns-5
 unfolding printed answerLine labelledLine
-returns-5 c = rw (c .before .before .before .before .before .before .answer4 .given .1) (c .before .before .pair4 .ensures)
+returns-5 c = rw (c .before .before .before .before .before .before .answer4 .given .1)
+    (c .before .before .pair4 .ensures)
 
 returns-6 : tie.Need-returns-6
 unfolding printed answerLine labelledLine
@@ -51,7 +54,8 @@ put-spec =
     tie.close
     (tie.spec
     (λ c. search needs) (λ c. search needs) pair-requires (λ c. search needs) (λ c. search needs) (λ c κs. search needs)
-    (λ c κs. search needs) (λ c. search needs) (λ c. search needs) pair-requires-3 (λ c. search needs) (λ c. search needs)
-    (λ c κs. search needs) (λ c. search needs) (λ c. search needs) pair-requires-4 (λ c. search needs) (λ c. search needs)
-    (λ c κs. search needs) (λ c. search needs) returns (λ c. search needs) returns-2 (λ c. search needs) returns-3 (λ c. search needs)
+    (λ c κs. search needs) (λ c. search needs) (λ c. search needs) pair-requires-3 (λ c. search needs)
+    (λ c. search needs) (λ c κs. search needs) (λ c. search needs) (λ c. search needs) pair-requires-4
+    (λ c. search needs) (λ c. search needs) (λ c κs. search needs) (λ c. search needs) returns (λ c. search needs)
+    returns-2 (λ c. search needs) returns-3 (λ c. search needs)
     returns-4 (λ c. search needs) returns-5 (λ c. search needs) returns-6)

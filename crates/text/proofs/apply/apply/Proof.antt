@@ -20,5 +20,6 @@ pub apply-spec : {M : Type 1} → statement M
 apply-spec =
     tie.close
     (tie.spec
-    (λ c κs. search needs) gate-requires (λ c. search needs) (λ c. search needs) (λ c. search needs) returns contract-rename-requires (λ c. search needs)
+    (λ c κs. search needs) gate-requires (λ c. search needs) (λ c. search needs) (λ c. search needs) returns
+    contract-rename-requires (λ c. search needs)
     (λ c. search needs) returns-2)

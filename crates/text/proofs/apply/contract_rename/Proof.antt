@@ -16,5 +16,6 @@ pub contract-rename-spec : {M : Type 1} → statement M
 contract-rename-spec =
     tie.close
     (tie.spec
-    (λ c κs. search needs) (λ c κs. search needs) (λ c. search needs) (λ c. search needs) (λ c. search needs) (λ c. search needs) returns
+    (λ c κs. search needs) (λ c κs. search needs) (λ c. search needs) (λ c. search needs) (λ c. search needs)
+    (λ c. search needs) returns
     rename-all-requires (λ c. search needs) (λ c. search needs) returns-2)

@@ -27,5 +27,7 @@ pub rename-all-spec : {M : Type 1} → statement M
 rename-all-spec =
     tie.close
     (tie.spec
-    (λ c. search needs) rename-requires (λ c. search needs) rename-requires-2 (λ c. search needs) (λ c. search needs) (λ c. search needs)
-    (λ c. search needs) returns rename-requires-3 (λ c. search needs) (λ c. search needs) returns-2 (λ c. search needs) (λ c. search needs) returns-3)
+    (λ c. search needs) rename-requires (λ c. search needs) rename-requires-2 (λ c. search needs) (λ c. search needs)
+    (λ c. search needs) (λ c. search needs) returns rename-requires-3 (λ c. search needs) (λ c. search needs) returns-2
+    (λ c. search needs)
+    (λ c. search needs) returns-3)

@@ -18,5 +18,6 @@ pub push-spec : {M : Type 1} → statement M
 push-spec =
     tie.close
     (tie.spec
-    (λ c. search needs) (λ c. search needs) (λ c. search needs) (λ c. search needs) (λ c. search needs) (λ c. search needs)
+    (λ c. search needs) (λ c. search needs) (λ c. search needs) (λ c. search needs) (λ c. search needs)
+    (λ c. search needs)
     (λ c. search needs) returns-2 returns-3 returns-4 returns-5 (λ c. search needs))

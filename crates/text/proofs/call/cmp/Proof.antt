@@ -11,7 +11,11 @@ returns c = not-two _ _ _ (c .match .keys2)
 
 returns-2 : tie.Need-returns-2
 unfolding callOf byCount
-returns-2 c = rw (c .before .before .before .args2 .given .1, c .check-register2 .ensures, c .before .check-register .ensures)
+returns-2 c = rw (
+  c .before .before .before .args2 .given .1,
+  c .check-register2 .ensures,
+  c .before .check-register .ensures,
+)
 
 pub cmp-spec : {M : Type 1} → statement M
 cmp-spec = tie.close (tie.spec (λ c. search needs) returns (λ c κs. search needs) (λ c κs. search needs) returns-2)

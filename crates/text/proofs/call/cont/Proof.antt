@@ -13,11 +13,17 @@ returns-2 : tie.Need-returns-2
 unfolding callOf byCount
 returns-2 c =
     let inner = c .before .before in
-    rw (inner .before .before .before .args2 .given .1, c .check-register3 .ensures, c .before .check-register2 .ensures, inner .check-register .ensures)
+    rw (
+      inner .before .before .before .args2 .given .1,
+      c .check-register3 .ensures,
+      c .before .check-register2 .ensures,
+      inner .check-register .ensures,
+    )
     (rw (inner .before .check-range .ensures))
 
 pub cont-spec : {M : Type 1} → statement M
 cont-spec =
     tie.close
     (tie.spec
-    (λ c. search needs) returns (λ c κs. search needs) (λ c κs. search needs) (λ c κs. search needs) (λ c κs. search needs) returns-2)
+    (λ c. search needs) returns (λ c κs. search needs) (λ c κs. search needs) (λ c κs. search needs)
+    (λ c κs. search needs) returns-2)

@@ -13,7 +13,13 @@ returns-2 : tie.Need-returns-2
 unfolding callOf byCount
 returns-2 c =
     let inner = c .before .before in
-    rw (inner .before .before .args2 .given .1, c .check-register2 .ensures, c .before .check-register .ensures, inner .check-range .ensures)
+    rw (
+      inner .before .before .args2 .given .1,
+      c .check-register2 .ensures,
+      c .before .check-register .ensures,
+      inner .check-range .ensures,
+    )
 
 pub low-spec : {M : Type 1} → statement M
-low-spec = tie.close (tie.spec (λ c. search needs) returns (λ c κs. search needs) (λ c κs. search needs) (λ c κs. search needs) returns-2)
+low-spec = tie.close (tie.spec (λ c. search needs) returns (λ c κs. search needs) (λ c κs. search needs)
+    (λ c κs. search needs) returns-2)

@@ -33,15 +33,18 @@ loop-again c =
     (turn .before .read .ensures) (turn .parting-after .ensures) (c .before .p .given .1)
 
 returns-2 : tie.Need-returns-2 Inv-loop μ-loop
-returns-2 c = at-end-none _ _ _ (c .if1 .taken) ∙ check-loop-end (c .before .before .loop .inv) (c .before .loop-test .left)
+returns-2 c = at-end-none _ _ _ (c .if1 .taken) ∙ check-loop-end (c .before .before .loop .inv)
+    (c .before .loop-test .left)
 
 returns-3 : tie.Need-returns-3 Inv-loop μ-loop
-returns-3 c = at-end-good _ _ _ (c .if1 .left) ∙ check-loop-end (c .before .before .loop .inv) (c .before .loop-test .left)
+returns-3 c = at-end-good _ _ _ (c .if1 .left) ∙ check-loop-end (c .before .before .loop .inv)
+    (c .before .loop-test .left)
 
 pub check-lines-spec : {M : Type 1} → statement M
 check-lines-spec =
     tie.close
     (tie.spec
-    Inv-loop μ-loop loop-holds (λ c κs. search needs) (λ c. search needs) (λ c. search needs) (λ c. search needs) (λ c. search needs)
-    (λ c κs. search needs) (λ c κs. search needs) (λ c. search needs) returns (λ c. search needs) (λ c. search needs)
+    Inv-loop μ-loop loop-holds (λ c κs. search needs) (λ c. search needs) (λ c. search needs) (λ c. search needs)
+    (λ c. search needs) (λ c κs. search needs) (λ c κs. search needs) (λ c. search needs) returns (λ c. search needs)
+    (λ c. search needs)
     (λ c. search needs) loop-again (λ c. search needs) returns-2 returns-3)

@@ -11,7 +11,11 @@ returns c = rw (c .before .before .before .qubits .given .1, c .one-qubit-item .
 
 returns-2 : tie.Need-returns-2
 unfolding gateItemOf byCount
-returns-2 c = rw (c .before .before .before .qubits2 .given .1, c .two-qubit-item .ensures, c .before .two-qubits .ensures)
+returns-2 c = rw (
+  c .before .before .before .qubits2 .given .1,
+  c .two-qubit-item .ensures,
+  c .before .two-qubits .ensures,
+)
 
 returns-3 : tie.Need-returns-3
 unfolding gateItemOf
@@ -21,5 +25,6 @@ pub gate-item-spec : {M : Type 1} → statement M
 gate-item-spec =
     tie.close
     (tie.spec
-    (λ c. search needs) (λ c κs. search needs) (λ c κs. search needs) (λ c. search needs) (λ c κs. search needs) (λ c κs. search needs)
+    (λ c. search needs) (λ c κs. search needs) (λ c κs. search needs) (λ c. search needs) (λ c κs. search needs)
+    (λ c κs. search needs)
     returns returns-2 returns-3)

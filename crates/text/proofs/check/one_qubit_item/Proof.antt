@@ -9,4 +9,5 @@ returns-2 : tie.Need-returns-2
 returns-2 c = rw (c .before .before .name .given .1) (c .ensure .ensures)
 
 pub one-qubit-item-spec : {M : Type 1} → statement M
-one-qubit-item-spec = tie.close (tie.spec (λ c. search needs) (λ c. search needs) (λ c κs. search needs) returns returns-2)
+one-qubit-item-spec = tie.close (tie.spec (λ c. search needs) (λ c. search needs) (λ c κs. search needs) returns
+    returns-2)

@@ -16,4 +16,5 @@ returns-4 : tie.Need-returns-4
 returns-4 c = rw (c .before .item .given .1)
 
 pub parting-after-spec : {M : Type 1} → statement M
-parting-after-spec = tie.close (tie.spec (λ c. search needs) (λ c. search needs) returns (λ c. search needs) returns-2 returns-3 returns-4)
+parting-after-spec = tie.close (tie.spec (λ c. search needs) (λ c. search needs) returns (λ c. search needs) returns-2
+    returns-3 returns-4)

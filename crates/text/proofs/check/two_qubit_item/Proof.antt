@@ -7,10 +7,16 @@ returns c = rw (c .enum-told .given .1)
 
 returns-2 : tie.Need-returns-2
 returns-2 c =
-    rw (c .before .before .before .before .name .given .1, c .ensure3 .ensures, c .before .ensure2 .ensures, c .before .before .ensure .ensures)
+    rw (
+      c .before .before .before .before .name .given .1,
+      c .ensure3 .ensures,
+      c .before .ensure2 .ensures,
+      c .before .before .ensure .ensures,
+    )
 
 pub two-qubit-item-spec : {M : Type 1} → statement M
 two-qubit-item-spec =
     tie.close
     (tie.spec
-    (λ c. search needs) (λ c. search needs) (λ c κs. search needs) (λ c κs. search needs) (λ c κs. search needs) returns returns-2)
+    (λ c. search needs) (λ c. search needs) (λ c κs. search needs) (λ c κs. search needs) (λ c κs. search needs) returns
+    returns-2)

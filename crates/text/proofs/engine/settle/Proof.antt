@@ -16,4 +16,5 @@ pub settle-spec : {M : Type 1} → statement M
 settle-spec =
     tie.close
     (tie.spec
-    (λ c. search needs) (λ c. search needs) roll-back-requires (λ c. search needs) (λ c. search needs) returns (λ c κs. search needs) returns-2)
+    (λ c. search needs) (λ c. search needs) roll-back-requires (λ c. search needs) (λ c. search needs) returns
+    (λ c κs. search needs) returns-2)

@@ -7,10 +7,16 @@ returns c = rw (c .enum-told .given .1)
 
 returns-2 : tie.Need-returns-2
 returns-2 c =
-    rw (c .before .before .before .before .name .given .1, c .check-range2 .ensures, c .before .check-range .ensures, c .before .before .check-apart .ensures)
+    rw (
+      c .before .before .before .before .name .given .1,
+      c .check-range2 .ensures,
+      c .before .check-range .ensures,
+      c .before .before .check-apart .ensures,
+    )
 
 pub two-qubit-call-spec : {M : Type 1} → statement M
 two-qubit-call-spec =
     tie.close
     (tie.spec
-    (λ c. search needs) (λ c. search needs) (λ c κs. search needs) (λ c κs. search needs) (λ c κs. search needs) returns returns-2)
+    (λ c. search needs) (λ c. search needs) (λ c κs. search needs) (λ c κs. search needs) (λ c κs. search needs) returns
+    returns-2)

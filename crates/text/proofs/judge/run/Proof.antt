@@ -17,8 +17,10 @@ second-requires c κs =
     let test = c .before .before in
     let first = test .before .before .before .before .before in
     let start = first .before .before .before .before .before .before .before in
-    let pre = start .before .before .before .before .before .before .pre in
-    (search needs, (second-ahead (pre .0) (start .start .ensures) (first .run .ensures) (test .if1 .left), (pre .1 .0, pre .1 .1)))
+    let pre = start .before .before .before .before .before .before .pre in (
+      search needs,
+      (second-ahead (pre .0) (start .start .ensures) (first .run .ensures) (test .if1 .left), (pre .1 .0, pre .1 .1)),
+    )
 
 returns-2 : tie.Need-returns-2
 returns-2 c =
@@ -26,11 +28,13 @@ returns-2 c =
     let test = second .before .before .before in
     let first = test .before .before .before .before .before in
     let start = first .before .before .before .before .before .before .before in
-    judge-ensures (start .before .before .before .before .before .before .pre .0) (start .start .ensures) (first .run .ensures) (test .if1 .left) (search needs) (search needs) (second .second .ensures)
+    judge-ensures (start .before .before .before .before .before .before .pre .0) (start .start .ensures)
+    (first .run .ensures) (test .if1 .left) (search needs) (search needs) (second .second .ensures)
 
 pub run-spec : {M : Type 1} → statement M
 run-spec =
     tie.close
     (tie.spec
-    (λ c κs. search needs) (λ c. search needs) run-requires (λ c. search needs) (λ c. search needs) returns sub-second second-requires
+    (λ c κs. search needs) (λ c. search needs) run-requires (λ c. search needs) (λ c. search needs) returns sub-second
+    second-requires
     (λ c. search needs) (λ c. search needs) returns-2)

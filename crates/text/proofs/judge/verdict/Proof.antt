@@ -13,4 +13,5 @@ pub verdict-spec : {M : Type 1} → statement M
 verdict-spec =
     tie.close
     (tie.spec
-    returns (λ c κs. search needs) (λ c κs. search needs) (λ c. search needs) (λ c. search needs) (λ c. search needs) returns-2)
+    returns (λ c κs. search needs) (λ c κs. search needs) (λ c. search needs) (λ c. search needs) (λ c. search needs)
+    returns-2)

@@ -15,11 +15,13 @@ returns c =
     let run = c .before .before .before .before .before in
     let read = run .before .before .before in
     let end = read .before .before in
-    gate-ensures (end .before .before .before .before .before .before .pre .1 .0 .headed) (end .end .ensures) (c .state-of .ensures) (read .gate .ensures) (run .gate2 .ensures)
+    gate-ensures (end .before .before .before .before .before .before .pre .1 .0 .headed) (end .end .ensures)
+    (c .state-of .ensures) (read .gate .ensures) (run .gate2 .ensures)
 
 pub gate-spec : {M : Type 1} → statement M
 gate-spec =
     tie.close
     (tie.spec
-    (λ c. search needs) (λ c κs. search needs) (λ c. search needs) (λ c. search needs) (λ c. search needs) gate-requires gate-requires-2
+    (λ c. search needs) (λ c κs. search needs) (λ c. search needs) (λ c. search needs) (λ c. search needs) gate-requires
+    gate-requires-2
     (λ c. search needs) (λ c κs. search needs) (λ c. search needs) (λ c. search needs) returns)

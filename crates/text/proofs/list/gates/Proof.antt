@@ -34,5 +34,6 @@ pub gates-spec : {M : Type 1} → statement M
 gates-spec =
     tie.close
     (tie.spec
-    Inv-loop μ-loop loop-holds (λ c. search needs) (λ c. search needs) returns gate-requires (λ c. search needs) (λ c. search needs) loop-again
+    Inv-loop μ-loop loop-holds (λ c. search needs) (λ c. search needs) returns gate-requires (λ c. search needs)
+    (λ c. search needs) loop-again
     (λ c. search needs) (λ c. search needs) returns-2)

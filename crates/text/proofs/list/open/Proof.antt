@@ -7,11 +7,13 @@ returns : tie.Need-returns
 returns c =
     let run = c .before .before .before .before .before in
     let end = run .before .before .before in
-    open-ensures (end .before .before .before .before .before .before .pre .1 .0) (end .end .ensures) (c .state-of .ensures) (run .call .ensures)
+    open-ensures (end .before .before .before .before .before .before .pre .1 .0) (end .end .ensures)
+    (c .state-of .ensures) (run .call .ensures)
 
 pub open-spec : {M : Type 1} → statement M
 open-spec =
     tie.close
     (tie.spec
-    (λ c. search needs) (λ c κs. search needs) (λ c κs. search needs) (λ c. search needs) (λ c κs. search needs) (λ c. search needs)
+    (λ c. search needs) (λ c κs. search needs) (λ c κs. search needs) (λ c. search needs) (λ c κs. search needs)
+    (λ c. search needs)
     (λ c. search needs) returns)

@@ -21,28 +21,37 @@ loop-holds c = digits-loop-start
 returns : tie.Need-returns Inv-loop μ-loop
 returns c =
     let turn = c .before .before .before in
-    digits-loop-below (turn .before .loop .inv) (turn .loop-test .taken) (rw (c .before .wide .ensures .0) at (c .if1 .taken))
+    digits-loop-below (turn .before .loop .inv) (turn .loop-test .taken)
+    (rw (c .before .wide .ensures .0) at (c .if1 .taken))
 
 returns-2 : tie.Need-returns-2 Inv-loop μ-loop
 returns-2 c =
     let turn = c .before .before .before .before in
-    digits-loop-above (turn .before .loop .inv) (turn .loop-test .taken) (rw (c .before .before .wide .ensures .0) at (c .if2 .taken))
+    digits-loop-above (turn .before .loop .inv) (turn .loop-test .taken)
+    (rw (c .before .before .wide .ensures .0) at (c .if2 .taken))
 
 mul-v : tie.Need-mul-v Inv-loop μ-loop
 mul-v c =
     let turn = c .before .before .before .before in
-    omega (arith, digits-loop-small (turn .before .loop .inv) (turn .loop-test .taken) (turn .before .before .before .pre))
+    omega (
+      arith,
+      digits-loop-small (turn .before .loop .inv) (turn .loop-test .taken) (turn .before .before .before .pre),
+    )
 
 add-v : tie.Need-add-v Inv-loop μ-loop
 add-v c =
     let turn = c .before .before .before .before in
-    omega (arith, digits-loop-small (turn .before .loop .inv) (turn .loop-test .taken) (turn .before .before .before .pre))
+    omega (
+      arith,
+      digits-loop-small (turn .before .loop .inv) (turn .loop-test .taken) (turn .before .before .before .pre),
+    )
 
 loop-again : tie.Need-loop-again Inv-loop μ-loop
 loop-again c =
     let turn = c .before .before .before .before in
     let w = c .before .before .wide .ensures .0 in
-    rw w (digits-loop-next (turn .before .loop .inv) (turn .loop-test .taken) (rw w at (c .before .if1 .left)) (rw w at (c .if2 .left)))
+    rw w (digits-loop-next (turn .before .loop .inv) (turn .loop-test .taken) (rw w at (c .before .if1 .left))
+    (rw w at (c .if2 .left)))
 
 returns-3 : tie.Need-returns-3 Inv-loop μ-loop
 returns-3 c = digits-loop-end (c .before .loop .inv) (c .loop-test .left)
@@ -51,5 +60,6 @@ pub digits-spec : {M : Type 1} → statement M
 digits-spec =
     tie.close
     (tie.spec
-    Inv-loop μ-loop loop-holds (λ c. search needs) (λ c κs. search needs) returns returns-2 mul-v add-v (λ c. search needs)
+    Inv-loop μ-loop loop-holds (λ c. search needs) (λ c κs. search needs) returns returns-2 mul-v add-v
+    (λ c. search needs)
     (λ c. search needs) loop-again returns-3)

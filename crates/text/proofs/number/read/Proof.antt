@@ -18,7 +18,8 @@ returns-4 : tie.Need-returns-4
 returns-4 c =
     let test = c .before .before in
     c .digits .ensures
-    ∙ number-plain _ _ (test .before .before .if1 .left) (test .before .if2 .left) (sym (test .needless .ensures) ∙ c .before .if3 .left)
+    ∙ number-plain _ _ (test .before .before .if1 .left) (test .before .if2 .left)
+    (sym (test .needless .ensures) ∙ c .before .if3 .left)
 
 pub read-spec : {M : Type 1} → statement M
 read-spec = tie.close (tie.spec returns returns-2 (λ c κs. search needs) returns-3 (λ c κs. search needs) returns-4)

@@ -17,5 +17,6 @@ pub low-spec : {M : Type 1} → statement M
 low-spec =
     tie.close
     (tie.spec
-    (λ c. search needs) (λ c κs. search needs) (λ c κs. search needs) (λ c. search needs) returns lower-requires (λ c. search needs)
+    (λ c. search needs) (λ c κs. search needs) (λ c κs. search needs) (λ c. search needs) returns lower-requires
+    (λ c. search needs)
     (λ c. search needs) returns-2)

@@ -18,11 +18,13 @@ returns-3 c =
     let apply = finished .before .before .before .before .before .before .before in
     let get = apply .before .before .before .before .before .before in
     let pre = get .before .before .before .before .before .pre in
-    performs-gate _ (pre .0) (search needs) (pre .1 .0) (get .get .ensures) (pre .1 .1) (search needs) (apply .apply .ensures) (finished .finish .ensures)
+    performs-gate _ (pre .0) (search needs) (pre .1 .0) (get .get .ensures) (pre .1 .1) (search needs)
+    (apply .apply .ensures) (finished .finish .ensures)
 
 pub gate-spec : {M : Type 1} → statement M
 gate-spec =
     tie.close
     (tie.spec
-    returns (λ c κs. search needs) (λ c. search needs) (λ c. search needs) returns-2 apply-requires (λ c κs. search needs) (λ c. search needs)
+    returns (λ c κs. search needs) (λ c. search needs) (λ c. search needs) returns-2 apply-requires
+    (λ c κs. search needs) (λ c. search needs)
     (λ c. search needs) returns-3)

@@ -43,8 +43,10 @@ returns t c = rw (c .digit .ensures) (digit-put _ _ _ (c .before .if1 .taken) (c
 
 number-requires : (t : ℕ) → number-lts.Need-number-requires (number-claims t) (number-at t) number.Post
 number-requires t c κs =
-    let start = c .before .before .before in
-    (omega (arith, start .pre .0), omega (arith, digits-room _ _ _ (c .before .if1 .left) (start .fits .n .fits) (start .pre .1)))
+    let start = c .before .before .before in (
+      omega (arith, start .pre .0),
+      omega (arith, digits-room _ _ _ (c .before .if1 .left) (start .fits .n .fits) (start .pre .1)),
+    )
 
 digit-requires-2 : (t : ℕ) → number-lts.Need-digit-requires-2 (number-claims t) (number-at t) number.Post
 digit-requires-2 t c κs = omega arith
@@ -59,19 +61,25 @@ add-result-2 : (t : ℕ) → number-lts.Need-add-result-2 (number-claims t) (num
 add-result-2 t c =
     let called = c .before .before .before in
     let start = called .before .before .before .before in
-    omega (arith, last-room (called .before .before .if1 .left) (start .fits .n .fits) (start .pre .1) (called .number .ensures), start .good)
+    omega (
+      arith,
+      last-room (called .before .before .if1 .left) (start .fits .n .fits) (start .pre .1) (called .number .ensures),
+      start .good,
+    )
 
 same-length-2 : (t : ℕ) → number-lts.Need-same-length-2 (number-claims t) (number-at t) number.Post
 same-length-2 t c =
     let called = c .before .before .before in
     let start = called .before .before .before .before in
-    simp length-set (last-room (called .before .before .if1 .left) (start .fits .n .fits) (start .pre .1) (called .number .ensures) .1)
+    simp length-set (last-room (called .before .before .if1 .left) (start .fits .n .fits) (start .pre .1)
+    (called .number .ensures) .1)
 
 returns-2 : (t : ℕ) → number-lts.Need-returns-2 (number-claims t) (number-at t) number.Post
 returns-2 t c =
     let called = c .before .before .before in
     let start = called .before .before .before .before in
-    rw (c .digit2 .ensures) (last-put (called .before .before .if1 .left) (start .fits .n .fits) (start .pre .1) (called .number .ensures))
+    rw (c .digit2 .ensures) (last-put (called .before .before .if1 .left) (start .fits .n .fits) (start .pre .1)
+    (called .number .ensures))
 
 pub +number-spec : {M : Type 1} → statement M
 +number-spec = close μ-number λ t. number-lts.spec (number-claims t) (number-at t)

@@ -4,7 +4,8 @@ use Rattle.text.proofs.print.labelled.Statement.{statement}
 use Rattle.text.proofs.print.labelled.Tie as tie
 
 number-requires : tie.Need-number-requires
-number-requires c κs = wrote-room _ (c .before .before .before .before .before .before .before .pre) (c .before .before .before .bytes .ensures)
+number-requires c κs = wrote-room _ (c .before .before .before .before .before .before .before .pre)
+    (c .before .before .before .bytes .ensures)
 
 returns : tie.Need-returns
 returns c =

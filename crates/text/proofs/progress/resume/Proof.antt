@@ -26,7 +26,8 @@ returns-2 c =
     let room = c .before in
     let few = room .before .before in
     let more = few .before .before in
-    resume-loop-stop (more .before .before .loop .inv .0) (more .if1 .taken) (few .if2 .left) (room .if3 .taken) (c .stop .ensures)
+    resume-loop-stop (more .before .before .loop .inv .0) (more .if1 .taken) (few .if2 .left) (room .if3 .taken)
+    (c .stop .ensures)
 
 turn-requires : tie.Need-turn-requires Inv-loop μ-loop
 turn-requires c κs = (search needs, search (needs, resume-loop-turn))
@@ -41,7 +42,8 @@ loop-again c =
     let few = room .before .before in
     let more = few .before .before in
     let g = more .before .before .loop .inv .0 in (
-      resume-loop-next g (more .if1 .taken) (few .if2 .left) (resume-loop-turn g (more .if1 .taken) (room .if3 .left)) (search needs) (search needs) (turn .turn .ensures),
+      resume-loop-next g (more .if1 .taken) (few .if2 .left) (resume-loop-turn g (more .if1 .taken) (room .if3 .left))
+          (search needs) (search needs) (turn .turn .ensures),
       search needs,
     )
 
@@ -52,6 +54,7 @@ pub resume-spec : {M : Type 1} → statement M
 resume-spec =
     tie.close
     (tie.spec
-    Inv-loop μ-loop loop-holds (λ c. search needs) (λ c. search needs) (λ c. search needs) returns (λ c. search needs) (λ c κs. search needs)
-    (λ c. search needs) (λ c. search needs) (λ c. search needs) returns-2 turn-requires loop-less loop-again (λ c. search needs) (λ c. search needs)
+    Inv-loop μ-loop loop-holds (λ c. search needs) (λ c. search needs) (λ c. search needs) returns (λ c. search needs)
+    (λ c κs. search needs) (λ c. search needs) (λ c. search needs) (λ c. search needs) returns-2 turn-requires loop-less
+    loop-again (λ c. search needs) (λ c. search needs)
     (λ c. search needs) returns-3)

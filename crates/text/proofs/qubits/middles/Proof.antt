@@ -22,4 +22,5 @@ pub middles-spec : {M : Type 1} → statement M
 middles-spec =
     tie.close
     (tie.spec
-    (λ c. search needs) middle-requires (λ c. search needs) middle-requires-2 middle-requires-3 (λ c. search needs) returns returns-2)
+    (λ c. search needs) middle-requires (λ c. search needs) middle-requires-2 middle-requires-3 (λ c. search needs)
+    returns returns-2)

@@ -17,4 +17,5 @@ pub at-spec : {M : Type 1} → statement M
 at-spec =
     tie.close
     (tie.spec
-    (λ c κs. search needs) (λ c. search needs) (λ c. search needs) (λ c κs. search needs) returns value-requires returns-2)
+    (λ c κs. search needs) (λ c. search needs) (λ c. search needs) (λ c κs. search needs) returns value-requires
+    returns-2)

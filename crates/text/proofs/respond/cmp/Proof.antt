@@ -19,5 +19,6 @@ pub cmp-spec : {M : Type 1} → statement M
 cmp-spec =
     tie.close
     (tie.spec
-    (λ c κs. search needs) (λ c. search needs) (λ c. search needs) (λ c κs. search needs) returns (λ c κs. search needs) (λ c. search needs)
+    (λ c κs. search needs) (λ c. search needs) (λ c. search needs) (λ c κs. search needs) returns (λ c κs. search needs)
+    (λ c. search needs)
     (λ c. search needs) (λ c κs. search needs) returns-2 compare-requires (λ c κs. search needs) returns-3)

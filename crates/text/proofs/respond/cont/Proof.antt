@@ -11,7 +11,10 @@ returns-2 : tie.Need-returns-2
 returns-2 c = search (needs, empty-cont-2)
 
 cont-requires : tie.Need-cont-requires
-cont-requires c κs = (search needs, (search needs, (search (needs, read-valid), (search (needs, read-valid), search needs))))
+cont-requires c κs = (
+  search needs,
+  (search needs, (search (needs, read-valid), (search (needs, read-valid), search needs))),
+)
 
 returns-3 : tie.Need-returns-3
 returns-3 c = search (needs, responds-cont)
@@ -20,5 +23,7 @@ pub cont-spec : {M : Type 1} → statement M
 cont-spec =
     tie.close
     (tie.spec
-    (λ c κs. search needs) (λ c. search needs) (λ c. search needs) (λ c κs. search needs) returns (λ c κs. search needs) (λ c. search needs)
-    (λ c. search needs) (λ c κs. search needs) returns-2 cont-requires (λ c. search needs) (λ c. search needs) returns-3)
+    (λ c κs. search needs) (λ c. search needs) (λ c. search needs) (λ c κs. search needs) returns (λ c κs. search needs)
+    (λ c. search needs) (λ c. search needs) (λ c κs. search needs) returns-2 cont-requires (λ c. search needs)
+    (λ c. search needs)
+    returns-3)

@@ -67,9 +67,12 @@ pub respond-spec : {M : Type 1} → statement M
 respond-spec =
     tie.close
     (tie.spec
-    (λ c. search needs) put-requires (λ c. search needs) gate-requires (λ c. search needs) unit-requires (λ c. search needs) add-requires
-    (λ c. search needs) cont-requires (λ c. search needs) low-requires (λ c. search needs) drop-requires (λ c. search needs) (λ c κs. search needs)
-    (λ c. search needs) at-requires (λ c. search needs) cmp-requires (λ c. search needs) (λ c κs. search needs) (λ c. search needs)
-    (λ c. search needs) returns (λ c. search needs) (λ c. search needs) returns-2 (λ c. search needs) (λ c. search needs) returns-3
-    (λ c. search needs) (λ c. search needs) returns-4 (λ c. search needs) (λ c. search needs) returns-5 (λ c. search needs) (λ c. search needs)
-    returns-6 returns-7 (λ c. search needs) (λ c. search needs) returns-8 (λ c. search needs) returns-9 returns-10 returns-11)
+    (λ c. search needs) put-requires (λ c. search needs) gate-requires (λ c. search needs) unit-requires
+    (λ c. search needs) add-requires (λ c. search needs) cont-requires (λ c. search needs) low-requires
+    (λ c. search needs) drop-requires (λ c. search needs) (λ c κs. search needs) (λ c. search needs) at-requires
+    (λ c. search needs) cmp-requires (λ c. search needs) (λ c κs. search needs) (λ c. search needs) (λ c. search needs)
+    returns (λ c. search needs) (λ c. search needs) returns-2 (λ c. search needs) (λ c. search needs) returns-3
+    (λ c. search needs) (λ c. search needs) returns-4 (λ c. search needs) (λ c. search needs) returns-5
+    (λ c. search needs) (λ c. search needs) returns-6 returns-7 (λ c. search needs) (λ c. search needs) returns-8
+    (λ c. search needs) returns-9 returns-10
+    returns-11)

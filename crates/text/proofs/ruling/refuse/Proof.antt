@@ -8,7 +8,8 @@ labelled-requires : tie.Need-labelled-requires
 labelled-requires c κs =
     let number = c .before .before in
     let start = number .before .before in
-    number-room (start .args .out .now) _ (start .args .line) (start .pre) (number .number-of .ensures .1) (start .fits .line .fits)
+    number-room (start .args .out .now) _ (start .args .line) (start .pre) (number .number-of .ensures .1)
+    (start .fits .line .fits)
 
 labelled-requires-2 : tie.Need-labelled-requires-2
 labelled-requires-2 c κs =
@@ -23,7 +24,8 @@ bytes-requires c κs =
     let first = second .before .before .before .before .before in
     let number = first .before .before .before in
     let start = number .before .before in
-    end-room _ _ _ (start .pre) (number .number-of .ensures .1) (start .fits .line .fits) (first .labelled .ensures) (second .labelled2 .ensures)
+    end-room _ _ _ (start .pre) (number .number-of .ensures .1) (start .fits .line .fits) (first .labelled .ensures)
+    (second .labelled2 .ensures)
 
 returns : tie.Need-returns
 returns c =
@@ -32,11 +34,13 @@ returns c =
     let number = first .before .before .before in
     let start = number .before .before in
     refusal-wrote _ _ _ (start .pre) (number .number-of .ensures .1) (start .fits .line .fits)
-    _ (number .number-of .ensures .0) (first .labelled .ensures) (second .labelled2 .ensures) (c .before .before .bytes .ensures)
+    _ (number .number-of .ensures .0) (first .labelled .ensures) (second .labelled2 .ensures)
+    (c .before .before .bytes .ensures)
 
 pub refuse-spec : {M : Type 1} → statement M
 refuse-spec =
     tie.close
     (tie.spec
-    (λ c κs. search needs) (λ c. search needs) labelled-requires (λ c. search needs) labelled-requires-2 (λ c. search needs) bytes-requires
+    (λ c κs. search needs) (λ c. search needs) labelled-requires (λ c. search needs) labelled-requires-2
+    (λ c. search needs) bytes-requires
     (λ c. search needs) returns)

@@ -25,4 +25,5 @@ returns-2 : tie.Need-returns-2 Inv-loop μ-loop
 returns-2 c = end-loop-end (c .before .loop .inv) (c .loop-test .left)
 
 pub end-spec : {M : Type 1} → statement M
-end-spec = tie.close (tie.spec Inv-loop μ-loop loop-holds (λ c. search needs) returns (λ c. search needs) (λ c. search needs) loop-again returns-2)
+end-spec = tie.close (tie.spec Inv-loop μ-loop loop-holds (λ c. search needs) returns (λ c. search needs)
+    (λ c. search needs) loop-again returns-2)

@@ -19,10 +19,12 @@ loop-holds : tie.Need-loop-holds Inv-loop μ-loop
 loop-holds c = same-loop-start refl (c .if1 .left)
 
 returns-2 : tie.Need-returns-2 Inv-loop μ-loop
-returns-2 c = same-loop-not (c .before .before .before .before .loop .inv) (c .before .before .before .loop-test .taken) (c .if2 .taken)
+returns-2 c = same-loop-not (c .before .before .before .before .loop .inv) (c .before .before .before .loop-test .taken)
+    (c .if2 .taken)
 
 loop-again : tie.Need-loop-again Inv-loop μ-loop
-loop-again c = same-loop-next (c .before .before .before .before .loop .inv) (c .before .before .before .loop-test .taken) (c .if2 .left)
+loop-again c = same-loop-next (c .before .before .before .before .loop .inv)
+    (c .before .before .before .loop-test .taken) (c .if2 .left)
 
 returns-3 : tie.Need-returns-3 Inv-loop μ-loop
 returns-3 c = same-loop-end (c .before .loop .inv) (c .loop-test .left)
@@ -31,5 +33,6 @@ pub same-spec : {M : Type 1} → statement M
 same-spec =
     tie.close
     (tie.spec
-    Inv-loop μ-loop returns loop-holds (λ c. search needs) (λ c. search needs) returns-2 (λ c. search needs) (λ c. search needs)
+    Inv-loop μ-loop returns loop-holds (λ c. search needs) (λ c. search needs) returns-2 (λ c. search needs)
+    (λ c. search needs)
     loop-again returns-3)

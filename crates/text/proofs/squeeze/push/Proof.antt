@@ -20,5 +20,6 @@ pub push-spec : {M : Type 1} → statement M
 push-spec =
     tie.close
     (tie.spec
-    (λ c. search needs) (λ c. search needs) (λ c. search needs) (λ c. search needs) returns returns-2 (λ c. search needs) (λ c. search needs)
+    (λ c. search needs) (λ c. search needs) (λ c. search needs) (λ c. search needs) returns returns-2
+    (λ c. search needs) (λ c. search needs)
     (λ c. search needs) (λ c. search needs) returns-3 returns-4)
