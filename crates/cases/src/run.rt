@@ -1,6 +1,7 @@
 // One text, and its verdict.
 use libc::STDOUT_FILENO;
 use text::judge;
+use text::limits::VERDICT_ROOM;
 use text::number;
 use text::number::Number;
 use text::split;
@@ -22,7 +23,7 @@ fn lend(text: &[u8], store: &mut [u8], cache: &mut [u64], capacity: usize) {
         word(b"bad capacity\n");
         return;
     }
-    let mut out = [0u8; 32];
+    let mut out = [0u8; VERDICT_ROOM];
     let a = 0;
     let bytes = 16 * capacity;
     show(text, &mut store[a..bytes], cache, &mut out);

@@ -8,7 +8,7 @@ use Rattle.diagram.specs.Tensor.{indices, Tensor, bits, fix, Bits, index
 use Rattle.diagram.specs.Tally.{Step, join}
 use Rattle.diagram.specs.Gate.{gateTensor}
 use Rattle.diagram.specs.Entry.{usesIndex}
-use Rattle.diagram.specs.Engine.{Sound, Refines, tensorOf}
+use Rattle.diagram.specs.Store.{Sound, Refines, tensorOf}
 use Rattle.diagram.specs.Join.{JoinRequires}
 use Rattle.diagram.specs.declared.gate.Gate.{Gate}
 use Rattle.diagram.specs.declared.node.Edge.{Edge}

@@ -23,9 +23,9 @@ use Rattle.diagram.specs.TallyPartsLaws.{build-weight, build-joined, fix
 use Rattle.diagram.specs.Meaning.{Valid}
 use Rattle.diagram.specs.MeaningLaws.{valid-more}
 use Rattle.diagram.specs.CanonicalLaws.{edge-constant}
-use Rattle.diagram.specs.Engine.{nodesOf, setOf, tensorOf, Sound, RefinesEdge, RefinesFull, Refines}
-use Rattle.diagram.specs.EngineLaws.{join-grows, tensor-kept, refines-stays, refines-count, refines-then}
-use Rattle.diagram.specs.EngineLaws.{refines-full-more, refines-edge, refines-full}
+use Rattle.diagram.specs.Store.{nodesOf, setOf, tensorOf, Sound, RefinesEdge, RefinesFull, Refines}
+use Rattle.diagram.specs.StoreLaws.{join-grows, tensor-kept, refines-stays, refines-count, refines-then}
+use Rattle.diagram.specs.StoreLaws.{refines-full-more, refines-edge, refines-full}
 use Rattle.diagram.specs.Build.{JoinRemains, gatePart, NoneOwned, fixBelow, NoneUsed, BitsBelow}
 use Rattle.diagram.specs.Tabulate.{tabulate}
 use Rattle.diagram.specs.MaskLaws.{one-shl}
@@ -33,8 +33,8 @@ use Rattle.diagram.specs.Gate.{entry, gateTensor, firstQubit, secondQubi
 use Rattle.diagram.specs.GateLaws.{gate-value}
 use Rattle.diagram.specs.Entry.{usesIndex}
 use Rattle.diagram.specs.EntryLaws.{unused, unused-entry}
-use Rattle.diagram.specs.FixBelowLaws.{fix-below-none, fix-below-from, fix-below-all, fix-below-split}
-use Rattle.diagram.specs.FixBelowLaws.{fix-below-free, low-bits, high-bits}
+use Rattle.diagram.specs.BuildFixBelowLaws.{fix-below-none, fix-below-from, fix-below-all, fix-below-split}
+use Rattle.diagram.specs.BuildFixBelowLaws.{fix-below-free, low-bits, high-bits}
 use Rattle.diagram.specs.declared.node.Edge.{Edge}
 use Rattle.diagram.specs.declared.make.State.{State}
 use Rattle.diagram.specs.declared.join.Outcome.the-variants as outcome
@@ -140,9 +140,9 @@ none-used {g} p q o = record {
   unused = λ j l h. unused g j (λ n. rw (p, q) at (o .others j l h n));
 }
 
-pub none-used-turned : {g : Gate} {a b k r : ℕ} → a ≡ firstQubit g → b ≡ secondQubit g → NoneOwned b a k r
+pub none-used-swapped : {g : Gate} {a b k r : ℕ} → a ≡ firstQubit g → b ≡ secondQubit g → NoneOwned b a k r
     → NoneUsed g k r
-none-used-turned p q o = none-used p q record {
+none-used-swapped p q o = none-used p q record {
   from = o .from;
   inside = o .inside;
   others = λ j l h n. let m = o .others j l h n in (m .1, m .0);

@@ -10,14 +10,14 @@ use Rattle.diagram.specs.Tensor.{Tensor, scale, bits, indices, masks}
 use Rattle.diagram.specs.Tally.{Step, sum, cont, low}
 use Rattle.diagram.specs.TallyStep.{Writes}
 use Rattle.diagram.specs.Meaning.{tensorAt, Valid}
-use Rattle.diagram.specs.Engine.{setOf, tensorOf}
+use Rattle.diagram.specs.Store.{setOf, tensorOf}
 use Rattle.diagram.specs.declared.node.Edge.{Edge}
 use Rattle.diagram.specs.declared.make.State.{State}
 use Rattle.diagram.specs.declared.cache.Key.{Key}
 use Rattle.diagram.specs.declared.cache.Op.{Op}
 use Rattle.diagram.specs.declared.cache.Op.the-variants.{Sum, Contract, Lower}
-use Rattle.diagram.specs.declared.cache.Found.{Found}
-use Rattle.diagram.specs.declared.cache.Found.the-variants.{Hit, Miss}
+use Rattle.diagram.specs.declared.cache.LookupResult.{LookupResult}
+use Rattle.diagram.specs.declared.cache.LookupResult.the-variants.{Hit, Miss}
 
 -- the words of an entry
 
@@ -52,7 +52,7 @@ pub record HasEntry (c : List ℕ) (epoch : ℕ) (k : Key) (e : Edge) : Type 0 w
   pub result : getD c (4 * slot + 3) 0 ≡ e .weight * 65536 + e .node
 
 -- a lookup that hits has found such an entry; one that misses says nothing
-abbrev pub LookupEnsures : List ℕ → ℕ → Key → Found → Type 0
+abbrev pub LookupEnsures : List ℕ → ℕ → Key → LookupResult → Type 0
 LookupEnsures c epoch k (Hit e) = HasEntry c epoch k e
 LookupEnsures c epoch k Miss = Unit {0}
 
@@ -65,7 +65,7 @@ pub record SameEntry (epoch : ℕ) (k : Key) (e : Edge) (epoch' : ℕ) (k' : Key
 pub record RememberEnsures (c c' : List ℕ) (epoch : ℕ) (k : Key) (e : Edge) : Type 0 where
   pub entries : (epoch' : ℕ) (k' : Key) (e' : Edge) → HasEntry c' epoch' k' e'
       → HasEntry c epoch' k' e' ⊎ SameEntry epoch k e epoch' k' e'
-  pub times : (i : ℕ) → (getD c' (4 * i + 2) 0 ≡ getD c (4 * i + 2) 0) ⊎ (getD c' (4 * i + 2) 0 ≡ epoch)
+  pub epochs : (i : ℕ) → (getD c' (4 * i + 2) 0 ≡ getD c (4 * i + 2) 0) ⊎ (getD c' (4 * i + 2) 0 ≡ epoch)
 
 -- no entry is of a later epoch
 pub record NoneLater (c : List ℕ) (epoch : ℕ) : Type 0 where

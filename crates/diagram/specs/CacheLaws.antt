@@ -10,8 +10,8 @@ use lib.Seq.{getD-set-same, getD-set-other}
 use Rattle.diagram.specs.Sets.{PrefixOf}
 use Rattle.diagram.specs.TallyStepLaws.{writes-stable}
 use Rattle.diagram.specs.MeaningLaws.{valid-more, at-kept}
-use Rattle.diagram.specs.Engine.{nodesOf, setOf, tensorOf}
-use Rattle.diagram.specs.EngineLaws.{set-length, sets-prefix, tensor-kept}
+use Rattle.diagram.specs.Store.{nodesOf, setOf, tensorOf}
+use Rattle.diagram.specs.StoreLaws.{set-length, sets-prefix, tensor-kept}
 use Rattle.diagram.specs.Cache.{SameEntry, AllEarlier, AllZero, Remembers, LookupEnsures, NoneLater}
 use Rattle.diagram.specs.Cache.{RememberEnsures, keyStep, HasEntry, StableEntry, codeOf, pack, KeyFits, EdgeFits}
 use Rattle.diagram.specs.Cache.{withEntry, ClearLoop}
@@ -19,12 +19,12 @@ use Rattle.diagram.specs.NodeLaws.{edge-eq}
 use Rattle.diagram.specs.declared.node.Edge.{Edge}
 use Rattle.diagram.specs.declared.make.State.{State}
 use Rattle.diagram.specs.declared.cache.Key.{Key}
-use Rattle.diagram.specs.declared.cache.Found.{Found}
-use Rattle.diagram.specs.declared.cache.Found.the-variants.{Hit}
+use Rattle.diagram.specs.declared.cache.LookupResult.{LookupResult}
+use Rattle.diagram.specs.declared.cache.LookupResult.the-variants.{Hit}
 use Rattle.diagram.specs.declared.cache.Op.{Op}
 use Rattle.diagram.specs.declared.cache.Op.the-variants.{Sum, Contract, Lower}
 
-pub lookup-is : {c : List ℕ} {epoch : ℕ} {k : Key} {e : Edge} (f : Found) → LookupEnsures c epoch k f → f ≡ Hit e
+pub lookup-is : {c : List ℕ} {epoch : ℕ} {k : Key} {e : Edge} (f : LookupResult) → LookupEnsures c epoch k f → f ≡ Hit e
     → HasEntry c epoch k e
 lookup-is {c} {epoch} {k} f l e = subst (LookupEnsures c epoch k) e l
 
@@ -44,7 +44,7 @@ remembers-nothing s st p = record {
 pub remembers-kept : {c c' s : List ℕ} {st : State} {k : Key} {e : Edge} → Remembers c s st → StableEntry s st k e
     → RememberEnsures c c' (st .epoch) k e → Remembers c' s st
 remembers-kept {c} {c'} {s} {st} {k} {e} m n w = record {
-  past = record { is = λ i. elim (w .times i) [ inl q ↦ omega (arith, m .past .is i) | inr q ↦ omega arith ] };
+  past = record { is = λ i. elim (w .epochs i) [ inl q ↦ omega (arith, m .past .is i) | inr q ↦ omega arith ] };
   entries = λ k' e' h. entry k' e' (w .entries (st .epoch) k' e' h);
 }
   where
@@ -191,13 +191,13 @@ module _ (c : List ℕ) (i epoch : ℕ) (k : Key) (e : Edge) (inside : 4 * i + 4
   kept-entered : RememberEnsures c c' epoch k e
   kept-entered = record {
     entries = λ epoch' k' e' w. entry epoch' k' e' w (ℕ-discrete (w .slot) i);
-    times = λ j. time j (ℕ-discrete j i);
+    epochs = λ j. time j (ℕ-discrete j i);
   }
 
 -- as the code comes to them
 
 pub remember-none : (c : List ℕ) (epoch : ℕ) (k : Key) (e : Edge) → RememberEnsures c c epoch k e
-remember-none c epoch k e = record { entries = λ epoch' k' e' h. inl h; times = λ i. inl refl }
+remember-none c epoch k e = record { entries = λ epoch' k' e' h. inl h; epochs = λ i. inl refl }
 
 pub remember-written : (c : List ℕ) (i w n epoch : ℕ) (k : Key) (e : Edge) → 4 * i + 4 ≤ length c → KeyFits k
     → EdgeFits e → w ≡ pack k → n ≡ e .node

@@ -14,7 +14,7 @@ use Rattle.field.specs.RingLaws.{weight-injective, nonzero-weight, weight-zero,
 use Rattle.diagram.specs.Tensor.{top, fix, joined, constant, isZero, scale, first, Normal, Tensor, normal}
 use Rattle.diagram.specs.TopLaws.{top-joined, free-below-constant, top-free-below, free-below-less, top-is}
 use Rattle.diagram.specs.TopLaws.{top-constant}
-use Rattle.diagram.specs.FreeLaws.{joined-low, joined-high, first-one, free-below-scale}
+use Rattle.diagram.specs.TopFreeLaws.{joined-low, joined-high, first-one, free-below-scale}
 use Rattle.diagram.specs.Tally.{Set, member}
 use Rattle.diagram.specs.Sets.{PrefixOf}
 use Rattle.diagram.specs.Meaning.{tensorAt, edgeIn, nodeTensor, tensors, nodeIn, level, Valid}
@@ -24,8 +24,8 @@ use Rattle.diagram.specs.Canonical.{NormalNode, Canonical}
 use Rattle.diagram.specs.TensorLaws.{first-constant, scale-one, zero-scale, isZero-constant, scale-scale}
 use Rattle.diagram.specs.TensorLaws.{fix-scale}
 use Rattle.diagram.specs.Top.{FreeBelow}
-use Rattle.diagram.specs.ScaleLaws.{isZero-scale, top-scale, unique-weight, unique-tensor, normal-scale}
-use Rattle.diagram.specs.ScaleLaws.{normal-same}
+use Rattle.diagram.specs.TensorScaleLaws.{isZero-scale, top-scale, unique-weight, unique-tensor, normal-scale}
+use Rattle.diagram.specs.TensorScaleLaws.{normal-same}
 use Rattle.diagram.specs.NodeLaws.{edge-eq}
 use Rattle.diagram.specs.TestLaws.{some-same, cases, no-some}
 use Rattle.diagram.specs.Reach.{Reachable, itself, part, Covers}
@@ -105,15 +105,15 @@ module _ (d : ℕ) (xs : List Node) (x : Node) (c : Canonical d xs) (h : NormalN
     pub each : NormalNode us (n - 1) (nodeIn d ys n)
     pub meaning : tensorAt us n ≡ nodeTensor us (nodeIn d ys n)
 
-  stands : (n : ℕ) → 1 ≤ n → n ≤ suc (length xs) → Dec (n ≡ suc (length xs)) → AtNode n
-  stands n p q (yes e) =
+  at-node : (n : ℕ) → 1 ≤ n → n ≤ suc (length xs) → Dec (n ≡ suc (length xs)) → AtNode n
+  at-node n p q (yes e) =
       let back : suc (length xs) - 1 ≡ length xs = omega arith in
       let l : length xs ≤ length ts = omega (arith, len) in
       rw e record {
         each = rw (node-new d xs x (suc (length xs)) refl, back) (normal-node-kept l h g);
         meaning = rw (node-new d xs x (suc (length xs)) refl) (here ∙ sym (node-tensor-kept l h g));
       }
-  stands n p q (no e) =
+  at-node n p q (no e) =
       let l : n ≤ length xs = omega arith in
       let k : n - 1 ≤ length ts = omega (arith, len) in
       record {
@@ -135,8 +135,8 @@ module _ (d : ℕ) (xs : List Node) (x : Node) (c : Canonical d xs) (h : NormalN
       let last : ℕ = suc (length xs) in
       let long : length ys ≡ last = length-append xs (x ∷ []) ∙ omega arith in
       record {
-        each = λ n p q. rw (tensors-more d xs x) (stands n p (rw long at q) (ℕ-discrete n last) .each);
-        meaning = λ n p q. rw (tensors-more d xs x) (stands n p (rw long at q) (ℕ-discrete n last) .meaning);
+        each = λ n p q. rw (tensors-more d xs x) (at-node n p (rw long at q) (ℕ-discrete n last) .each);
+        meaning = λ n p q. rw (tensors-more d xs x) (at-node n p (rw long at q) (ℕ-discrete n last) .meaning);
         unique = λ n m p q e. apart n m (rw long at p) (rw long at q) (ℕ-discrete n last) (ℕ-discrete m last)
             (rw (tensors-more d xs x) at e);
       }
@@ -149,16 +149,21 @@ module _ (d : ℕ) (xs : List Node) (c : Canonical d xs) where
   node-first zero p = rw (at-zero (tensors d xs)) (first-constant d 1W)
   node-first (suc n) p = rw (c .meaning (suc n) (omega arith) p) (c .each (suc n) (omega arith) p .one)
 
-  pub node-top : (n : ℕ) → 1 ≤ n → n ≤ length xs → top (tensorAt (tensors d xs) n) ≡ some (nodeIn d xs n .index)
-  node-top n p q = rw (c .meaning n p q) (normal-node-top (c .each n p q))
+  pub canonical-node-top : (n : ℕ) → 1 ≤ n → n ≤ length xs → top (tensorAt (tensors d xs) n) ≡ some
+      (nodeIn d xs n .index)
+  canonical-node-top n p q = rw (c .meaning n p q) (normal-node-top (c .each n p q))
 
-  pub node-normal : (n : ℕ) → 1 ≤ n → n ≤ length xs → Normal (tensorAt (tensors d xs) n)
-  node-normal n p q = record { index = nodeIn d xs n .index; depends = node-top n p q; one = node-first n q }
+  pub canonical-node-normal : (n : ℕ) → 1 ≤ n → n ≤ length xs → Normal (tensorAt (tensors d xs) n)
+  canonical-node-normal n p q = record {
+    index = nodeIn d xs n .index;
+    depends = canonical-node-top n p q;
+    one = node-first n q;
+  }
 
   -- "No node's tensor is a multiple of another node's."
-  pub node-multiple : (n m : ℕ) (f : Weight) → n ≤ length xs → m ≤ length xs
+  pub canonical-node-multiple : (n m : ℕ) (f : Weight) → n ≤ length xs → m ≤ length xs
       → tensorAt (tensors d xs) n ≡ scale f (tensorAt (tensors d xs) m) → n ≡ m
-  node-multiple n m f p q e =
+  canonical-node-multiple n m f p q e =
       let nonzero : Nonzero f = not-zero f (λ z. true≢false (sym (isZero-constant d)
       ∙ ap isZero (sym (e ∙ ap (λ w. scale w (tensorAt (tensors d xs) m)) z ∙ zero-scale _))
       ∙ first-one _ (node-first n p))) in
@@ -166,12 +171,12 @@ module _ (d : ℕ) (xs : List Node) (c : Canonical d xs) where
 
   -- edges
 
-  pub edge-zero : (e : Edge) → e .weight ≡ 0 → edgeIn (tensors d xs) e ≡ constant d 0W
+  pub zero-weight : (e : Edge) → e .weight ≡ 0 → edgeIn (tensors d xs) e ≡ constant d 0W
   unfolding edgeIn
-  edge-zero e z = rw (z, weight-zero) (zero-scale _)
+  zero-weight e z = rw (z, weight-zero) (zero-scale _)
 
   pub edge-is-zero : (e : Edge) → e .weight ≡ 0 → isZero (edgeIn (tensors d xs) e) ≡ true
-  edge-is-zero e z = rw (edge-zero e z) (isZero-constant d)
+  edge-is-zero e z = rw (zero-weight e z) (isZero-constant d)
 
   pub edge-nonzero : (e : Edge) → Valid (length xs) e → e .weight ≢ 0 → isZero (edgeIn (tensors d xs) e) ≡ false
   unfolding edgeIn
@@ -183,10 +188,10 @@ module _ (d : ℕ) (xs : List Node) (c : Canonical d xs) where
       elim (ℕ-discrete (e .weight) 0) [ yes p ↦ p | no n ↦ absurd (true≢false (sym z ∙ edge-nonzero e v n)) ]
 
   -- an edge's tensor determines its weight and its node
-  pub edge-unique : {e f : Edge} → Valid (length xs) e → Valid (length xs) f
+  pub canonical-edge-unique : {e f : Edge} → Valid (length xs) e → Valid (length xs) f
       → edgeIn (tensors d xs) e ≡ edgeIn (tensors d xs) f → e ≡ f
   unfolding edgeIn
-  edge-unique {e} {f} v w q = go (ℕ-discrete (e .weight) 0) (ℕ-discrete (f .weight) 0)
+  canonical-edge-unique {e} {f} v w q = go (ℕ-discrete (e .weight) 0) (ℕ-discrete (f .weight) 0)
     where
       go : Dec (e .weight ≡ 0) → Dec (f .weight ≡ 0) → e ≡ f
       go (yes a) b = let z = edge-zero-weight f w (ap isZero (sym q) ∙ edge-is-zero e a) in edge-eq (a ∙ sym z)
@@ -205,7 +210,7 @@ module _ (d : ℕ) (xs : List Node) (c : Canonical d xs) where
   unfolding edgeIn level
   edge-top e v p =
       top-scale _ _ (nonzero-weight (e .weight) (v .small) (λ z. omega (arith, v .zero z)))
-      ∙ node-top (e .node) p (v .within)
+      ∙ canonical-node-top (e .node) p (v .within)
 
   pub edge-constant : (e : Edge) → e .node ≡ 0 → edgeIn (tensors d xs) e ≡ scale (toWeight (e .weight)) (constant d 1W)
   unfolding edgeIn
@@ -245,7 +250,7 @@ module _ (d : ℕ) (xs : List Node) (s : Canonical d xs) where
         z,
         (
           omega arith,
-          some-same (sym (node-top d xs s (suc n) (omega arith) p)
+          some-same (sym (canonical-node-top d xs s (suc n) (omega arith) p)
               ∙ sym (top-scale c (tensorAt (tensors d xs) (suc n)) z) ∙ e),
         ),
       )

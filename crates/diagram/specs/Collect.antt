@@ -3,9 +3,9 @@ use mathlib.Core.Path.{_≡_}
 use mathlib.Core.Logic.{_≢_}
 use mathlib.Core.List.{List}
 use Prim.Native.Nat.{ℕ, _≤_}
-use Rattle.diagram.specs.Tally.{collect, filled}
+use Rattle.diagram.specs.Tally.{collect, filledTensors}
 use Rattle.diagram.specs.Node.{nodeAt, listed}
-use Rattle.diagram.specs.Engine.{setOf, Sound}
+use Rattle.diagram.specs.Store.{setOf, Sound}
 use Rattle.diagram.specs.Cache.{NoneLater, AllEarlier}
 use Rattle.diagram.specs.Compact.{newNumber, survivors, MarksClosed, renumberRegisters}
 use Rattle.diagram.specs.Mark.{AllMarked}
@@ -41,4 +41,4 @@ pub record CollectEnsures (c' s s' : List ℕ) (st st' : State) (rs rs' : List R
   pub registers : RegistersValid (st' .count) rs'
   pub weights : weightsOf rs' ≡ weightsOf rs
   pub same : holdsAll (setOf s' st') rs' ≡ holdsAll (setOf s st) rs
-  pub set : setOf s' st' ≡ collect (filled (holdsAll (setOf s st) rs)) (setOf s st)
+  pub set : setOf s' st' ≡ collect (filledTensors (holdsAll (setOf s st) rs)) (setOf s st)

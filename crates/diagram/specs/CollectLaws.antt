@@ -8,21 +8,22 @@ use native.Mathlib.Omega.{arith}
 use native.Mathlib.Decide.{ℕ-discrete}
 use lib.ListN.{length}
 use Rattle.diagram.specs.Tensor.{Tensor, indices}
-use Rattle.diagram.specs.Tally.{Set, member, keeps, collect, filled}
+use Rattle.diagram.specs.Tally.{Set, member, keeps, collect, filledTensors}
 use Rattle.diagram.specs.Node.{nodeAt, listed}
 use Rattle.diagram.specs.Meaning.{tensorAt, tensors}
 use Rattle.diagram.specs.Canonical.{Canonical}
-use Rattle.diagram.specs.Engine.{nodesOf, setOf, Sound}
-use Rattle.diagram.specs.EngineLaws.{nodes-length, node-form}
+use Rattle.diagram.specs.Store.{nodesOf, setOf, Sound}
+use Rattle.diagram.specs.StoreLaws.{nodes-length, node-form}
 use Rattle.diagram.specs.Restore.{RollbackRequires, RollbackEnsures}
 use Rattle.diagram.specs.Compact.{newNumber, survivors, CompactEnsures, forward, renumberRegisters}
+use Rattle.diagram.specs.Compact.{SurvivorsKept}
 use Rattle.diagram.specs.CompactLaws.{new-number-none, new-number-le, forward-zero, forward-node}
 use Rattle.diagram.specs.Mark.{ChildrenBefore, marksOf, ReachEnsures}
-use Rattle.diagram.specs.SurvivorLaws.{Survived, survived, new-number-mono}
-use Rattle.diagram.specs.KeptLaws.{filtered-all, kept-marked, kept-closed, kept-roots, mark-kept}
+use Rattle.diagram.specs.CompactSurvivorLaws.{survived, new-number-mono}
+use Rattle.diagram.specs.MarkCollectLaws.{filtered-all, kept-marked, kept-closed, kept-roots, mark-kept}
 use Rattle.diagram.specs.Registers.{holdsAll, weightsOf, edgesOf, RegistersValid, tensorsOf}
 use Rattle.diagram.specs.RegistersLaws.{filled-edges}
-use Rattle.diagram.specs.RenumberLaws.{renumber-ext, renumber-weights, renumber-holds, renumber-registers}
+use Rattle.diagram.specs.CompactRenumberLaws.{renumber-ext, renumber-weights, renumber-holds, renumber-registers}
 use Rattle.diagram.specs.Collect.{CollectEnsures, CollectRequires, SweepEnsures}
 use Rattle.diagram.specs.TestLaws.{cases}
 use Rattle.diagram.specs.declared.make.State.{State}
@@ -57,7 +58,7 @@ module _ (d : ℕ) (count : ℕ) (rs rs' : List Register) (s s' : List ℕ) (k :
   abbrev a : ℕ → ℕ
   a = w .marks
 
-  after : Survived d (nodeAt s) count a canonical (w .closed) (survivors a (nodeAt s) count) count
+  after : SurvivorsKept d (nodeAt s) count a (survivors a (nodeAt s) count) count
   after = survived d (nodeAt s) count a canonical (w .closed) count (omega arith)
 
   pub sweep-canonical : Canonical d (listed (nodeAt s') k)
@@ -83,7 +84,7 @@ module _ (d : ℕ) (count : ℕ) (rs rs' : List Register) (s s' : List ℕ) (k :
       (λ e. absurd (kept-marked d (nodeAt s) count a canonical (w .closed) (edgesOf rs) (g .valid) (w .all) n q e z))
       (λ e. e)
 
-  pub sweep-set : tensors d (listed (nodeAt s') k) ≡ collect (filled (holdsAll ts rs)) ts
+  pub sweep-set : tensors d (listed (nodeAt s') k) ≡ collect (filledTensors (holdsAll ts rs)) ts
   unfolding collect
   sweep-set =
       rw (filled-edges ts rs, w .moved)

@@ -9,6 +9,8 @@ use lib.ListN.{length}
 use lib.Dec.{eqb}
 use Rattle.diagram.specs.Fields.{field, putField}
 use Rattle.diagram.specs.Node.{nodeAt, putNode, listed}
+use Rattle.diagram.specs.Meaning.{tensorAt, tensors}
+use Rattle.diagram.specs.Canonical.{Canonical}
 use Rattle.diagram.specs.Registers.{occupied}
 use Rattle.diagram.specs.declared.node.Node.{Node}
 use Rattle.diagram.specs.declared.registers.Register.{Register}
@@ -103,3 +105,10 @@ pub record HasOldNumber (a : ℕ → ℕ) (m k : ℕ) : Type 0 where
   pub below : number ≤ m
   pub stays : Survives a number
   pub is : newNumber a number ≡ k
+
+-- the list ys is the survivors of nodes 1 .. m, canonical again, and a survivor's tensor is at its new number
+pub record SurvivorsKept (d : ℕ) (f : ℕ → Node) (count : ℕ) (a : ℕ → ℕ) (ys : List Node) (m : ℕ) : Type 0 where
+  pub long : length ys ≡ newNumber a m
+  pub kept : (n : ℕ) → n ≤ m → Survives a n
+      → tensorAt (tensors d ys) (newNumber a n) ≡ tensorAt (tensors d (listed f count)) n
+  pub nodes : Canonical d ys

@@ -7,7 +7,7 @@ use Prim.Native.Nat.{ℕ, _<_}
 use Rattle.field.specs.Weight.{modulus, Weight, toWeight, timesW, inverseW, Nonzero}
 use Rattle.diagram.specs.Tensor.{Tensor, same, isZero, scale, first}
 use Rattle.diagram.specs.Meaning.{Valid}
-use Rattle.diagram.specs.Engine.{tensorOf, Sound}
+use Rattle.diagram.specs.Store.{tensorOf, Sound}
 use Rattle.diagram.specs.declared.node.Edge.{Edge}
 use Rattle.diagram.specs.declared.make.State.{State}
 use Rattle.diagram.specs.declared.compare.Comparison.{Comparison}

@@ -14,15 +14,15 @@ use Rattle.field.specs.InverseLaws.{inverse, times-nonzero, inverse-nonzero}
 use Rattle.diagram.specs.Tensor.{Tensor, same, constant, isZero, scale, first, indices}
 use Rattle.diagram.specs.TensorLaws.{same-eq, eq-same, scale-scale, scale-zero, zero-scale, isZero-eq}
 use Rattle.diagram.specs.TensorLaws.{isZero-constant}
-use Rattle.diagram.specs.ScaleLaws.{isZero-scale, first-scale, first-nonzero, unique-tensor}
+use Rattle.diagram.specs.TensorScaleLaws.{isZero-scale, first-scale, first-nonzero, unique-tensor}
 use Rattle.diagram.specs.Grow.{grow}
 use Rattle.diagram.specs.GrowLaws.{grow-same, grow-isZero, grow-first, grow-scale}
 use Rattle.diagram.specs.Meaning.{tensorAt, edgeIn, tensors, Valid}
 use Rattle.diagram.specs.NodeLaws.{edge-eq}
 use Rattle.diagram.specs.Canonical.{Canonical}
-use Rattle.diagram.specs.CanonicalLaws.{node-first, edge-is-zero, edge-zero-weight, edge-unique}
-use Rattle.diagram.specs.Engine.{nodesOf, setOf, tensorOf}
-use Rattle.diagram.specs.EngineLaws.{nodes-length}
+use Rattle.diagram.specs.CanonicalLaws.{node-first, edge-is-zero, edge-zero-weight, canonical-edge-unique}
+use Rattle.diagram.specs.Store.{nodesOf, setOf, tensorOf}
+use Rattle.diagram.specs.StoreLaws.{nodes-length}
 use Rattle.diagram.specs.Compare.{ratio, compared, ComparisonMeans, NoMultiple, CompareEnsures}
 use Rattle.diagram.specs.TestLaws.{cases}
 use Rattle.diagram.specs.declared.node.Node.{Node}
@@ -113,10 +113,10 @@ module _ (d : ℕ) (xs : List Node) (s : Canonical d xs) {a b : Edge} (va : Vali
   abbrev B : Tensor d
   B = edgeIn (tensors d xs) b
 
-  nodes-differ : a .node ≢ b .node → NoMultiple A B
+  no-multiple : a .node ≢ b .node → NoMultiple A B
   unfolding edgeIn
-  nodes-differ n = record {
-    differ = λ e. n (ap (λ (x : Edge). x .node) (edge-unique d xs s va vb e));
+  no-multiple n = record {
+    differ = λ e. n (ap (λ (x : Edge). x .node) (canonical-edge-unique d xs s va vb e));
     multiple = λ f z e. n (one-node f z e);
   }
     where
@@ -136,12 +136,12 @@ module _ (d : ℕ) (xs : List Node) (s : Canonical d xs) {a b : Edge} (va : Vali
               (node-first d xs s (a .node) (va .within)) (node-first d xs s (b .node) (vb .within))
               (e ∙ scale-scale f _ _))
 
-  weights-differ : a .weight ≢ b .weight → A ≢ B
-  weights-differ n e = n (ap (λ (x : Edge). x .weight) (edge-unique d xs s va vb e))
+  tensors-differ : a .weight ≢ b .weight → A ≢ B
+  tensors-differ n e = n (ap (λ (x : Edge). x .weight) (canonical-edge-unique d xs s va vb e))
 
   zero-differs : a .weight ≢ b .weight → (a .weight ≡ 0) ⊎ (b .weight ≡ 0) → NoMultiple A B
   zero-differs n z =
-      record { differ = weights-differ n; multiple = λ f m e. n (go (ap isZero e ∙ isZero-scale f B m) z) }
+      record { differ = tensors-differ n; multiple = λ f m e. n (go (ap isZero e ∙ isZero-scale f B m) z) }
     where
       go : isZero A ≡ isZero B → (a .weight ≡ 0) ⊎ (b .weight ≡ 0) → a .weight ≡ b .weight
       go e (inl p) = p ∙ sym (edge-zero-weight d xs s b vb (sym e ∙ edge-is-zero d xs s a p))
@@ -159,10 +159,10 @@ module _ (d : ℕ) (xs : List Node) (s : Canonical d xs) {a b : Edge} (va : Vali
 
 -- the answers, as the code comes to them
 
-pub stands-ratio : (v w i : ℕ) {r : ℕ} → Represents i (inverseW (toWeight w))
+pub represents-ratio : (v w i : ℕ) {r : ℕ} → Represents i (inverseW (toWeight w))
     → Represents r (timesW (toWeight v) (toWeight i))
     → Represents r (timesW (toWeight v) (inverseW (toWeight w)))
-stands-ratio v w i p q = record { small = q .small; is = q .is ∙ ap (timesW (toWeight v)) (p .is) }
+represents-ratio v w i p q = record { small = q .small; is = q .is ∙ ap (timesW (toWeight v)) (p .is) }
 
 module _ {a b : Edge} where
   in-store : {r : Comparison}
@@ -175,7 +175,7 @@ module _ {a b : Edge} where
   }
 
   pub compare-nodes : a .node ≢ b .node → CompareEnsures a b Differ
-  compare-nodes n = in-store (λ d xs s va vb. compared-differ _ _ (nodes-differ d xs s va vb n))
+  compare-nodes n = in-store (λ d xs s va vb. compared-differ _ _ (no-multiple d xs s va vb n))
 
   pub compare-same : a .node ≡ b .node → a .weight ≡ b .weight → CompareEnsures a b Same
   compare-same m w = in-store (λ d xs s va vb. compared-same _ _ (ap (edgeIn (tensors d xs)) (edge-eq w m)))
@@ -193,7 +193,7 @@ module _ {a b : Edge} where
           let nonzero : Nonzero (toWeight f) =
           rw (q .is) (times-nonzero (nonzero-weight _ (va .small) z) (inverse-nonzero (nonzero-weight _ (vb .small) y)))
           in
-          compared-factor _ _ (toWeight f) (weights-differ d xs c va vb n) nonzero
+          compared-factor _ _ (toWeight f) (tensors-differ d xs c va vb n) nonzero
           (factor-of d xs c va vb f one y (q .is))
           ∙ ap Factor (number-weight f (q .small))
 

@@ -1,4 +1,4 @@
--- Contraction in the store (document 01, cont): its parts, as the code comes to them.
+-- Contraction in the store (document 01, cont): its parts, in the order of the code.
 use mathlib.Core.Path.{_≡_}
 use mathlib.Core.Logic.{_≢_}
 use mathlib.Core.Bool.{cond}

@@ -26,8 +26,8 @@ use Rattle.diagram.specs.Reach.{Covers}
 use Rattle.diagram.specs.CanonicalLaws.{sound-covers}
 use Rattle.diagram.specs.Meaning.{tensorAt, edgeIn, tensors}
 use Rattle.diagram.specs.MeaningLaws.{at-zero}
-use Rattle.diagram.specs.Engine.{nodesOf, setOf, tensorOf, Refines}
-use Rattle.diagram.specs.EngineLaws.{nodes-length, zero-edge, join-grows}
+use Rattle.diagram.specs.Store.{nodesOf, setOf, tensorOf, Refines}
+use Rattle.diagram.specs.StoreLaws.{nodes-length, zero-edge, join-grows}
 use Rattle.diagram.specs.EdgeLaws.{free-below-level, level-most, level-none}
 use Rattle.diagram.specs.Cache.{KeyFits, opStep, keyStep}
 use Rattle.diagram.specs.Mask.{MaskWithout, MaskFrom}
@@ -36,9 +36,9 @@ use Rattle.diagram.specs.Operation.{HighRequires, edgesMeasure, PartsGro
 use Rattle.diagram.specs.OperationLaws.{cached-stays, cached-step, cached-scaled}
 use Rattle.diagram.specs.Edge.{IsCofactor}
 use Rattle.diagram.specs.Join.{JoinRequires}
-use Rattle.diagram.specs.HalvesLaws.{measure-same, inside, tops}
-use Rattle.diagram.specs.HalvesLaws.{low-part-full, high-part-ready, high-part-measure, low-part-refines}
-use Rattle.diagram.specs.HalvesLaws.{high-part-full, high-ready, high-joinable, high-part-refines}
+use Rattle.diagram.specs.OperationHalvesLaws.{measure-same, inside, tops}
+use Rattle.diagram.specs.OperationHalvesLaws.{low-part-full, high-part-ready, high-part-measure, low-part-refines}
+use Rattle.diagram.specs.OperationHalvesLaws.{high-part-full, high-ready, high-joinable, high-part-refines}
 use Rattle.diagram.specs.SumLaws.{zero-tensor, nonzero-tensor}
 use Rattle.diagram.specs.Contract.{ContractReduced, combine, FactoredEnsures, contWithout}
 use Rattle.diagram.specs.declared.node.Edge.{Edge}
@@ -282,8 +282,11 @@ module _ {c s : List ℕ} {st : State} {a b a1 b1 l : Edge} {m k r : ℕ} (w : H
   contract-high-full x = high-part-full w u ca cb c₁ s₁ q high-reduced x
 
   module _ {y : Edge} {t : State} (x : q ≡ outcome.Edge y t) where
-    pub contract-meetable : OperationRequires c₁ s₁ t l y × JoinRequires s₁ t k l y
-    contract-meetable = (high-ready w u ca cb c₁ s₁ q high-reduced x, high-joinable w u ca cb c₁ s₁ q high-reduced x)
+    pub contract-combine-requires : OperationRequires c₁ s₁ t l y × JoinRequires s₁ t k l y
+    contract-combine-requires = (
+      high-ready w u ca cb c₁ s₁ q high-reduced x,
+      high-joinable w u ca cb c₁ s₁ q high-reduced x,
+    )
 
     pub contract-high-refines : (c₂ s₂ : List ℕ) (z : Outcome)
         → RefinesCached c₂ s₁ s₂ t (combine k m (tensorOf s₁ t l) (tensorOf s₁ t y)) z
@@ -293,13 +296,13 @@ module _ {c s : List ℕ} {st : State} {a b a1 b1 l : Edge} {m k r : ℕ} (w : H
 
 -- "the answer is sum(L,H) if k is in S, else join(k,L,H)"
 module _ (m k : ℕ) {x : Bool} (e : x ≡ bits m k) where
-  pub meet-sum : (c' s s' : List ℕ) (st : State) (L H : Tensor indices) (r : Outcome) → x ≡ true
+  pub combine-sum : (c' s s' : List ℕ) (st : State) (L H : Tensor indices) (r : Outcome) → x ≡ true
       → RefinesCached c' s s' st (sum L H) r
       → RefinesCached c' s s' st (combine k m L H) r
-  meet-sum c' s s' st L H r q w = rw (sym e ∙ q) w
+  combine-sum c' s s' st L H r q w = rw (sym e ∙ q) w
 
-  pub meet-join : {c s : List ℕ} {st : State} {l h : Edge} (s' : List ℕ) (L H : Tensor indices) (r : Outcome)
+  pub combine-join : {c s : List ℕ} {st : State} {l h : Edge} (s' : List ℕ) (L H : Tensor indices) (r : Outcome)
       → x ≡ false → OperationRequires c s st l h
       → Refines s s' st (join k L H) r
       → RefinesCached c s s' st (combine k m L H) r
-  meet-join s' L H r q g d = rw (sym e ∙ q) (cached-step s' _ r g d)
+  combine-join s' L H r q g d = rw (sym e ∙ q) (cached-step s' _ r g d)

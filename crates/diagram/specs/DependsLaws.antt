@@ -1,4 +1,4 @@
--- Laws of the marks that say whether a tensor depends on an index.
+-- Laws of the flags that say whether a tensor depends on an index.
 use mathlib.Core.Path.{_≡_, refl, ap, ap₂, sym, _∙_}
 use mathlib.Core.Logic.{_≢_}
 use mathlib.Core.Bool.{Bool, true, false, cond, _||_}
@@ -14,7 +14,7 @@ use Rattle.field.specs.Weight.{Weight, 0W, 1W}
 use Rattle.field.specs.RingLaws.{nonzero-weight}
 use Rattle.diagram.specs.Tensor.{constant, depends, indices}
 use Rattle.diagram.specs.TopLaws.{top-constant}
-use Rattle.diagram.specs.FreeLaws.{top-lowest, top-no, depends-parts, depends-scale}
+use Rattle.diagram.specs.TopFreeLaws.{top-lowest, top-no, depends-parts, depends-scale}
 use Rattle.diagram.specs.Tally.{Set}
 use Rattle.diagram.specs.Fields.{field, putField}
 use Rattle.diagram.specs.FieldsLaws.{putField-same, putField-other}
@@ -23,11 +23,11 @@ use Rattle.diagram.specs.NodeLaws.{same-records-refl, same-records-put, 
 use Rattle.diagram.specs.Meaning.{tensorAt, edgeIn, nodeTensor, tensors, nodeIn, Valid}
 use Rattle.diagram.specs.MeaningLaws.{at-zero, valid-more}
 use Rattle.diagram.specs.Canonical.{NormalNode, Canonical}
-use Rattle.diagram.specs.CanonicalLaws.{normal-node-top, normal-node-low, normal-node-high, edge-zero}
-use Rattle.diagram.specs.Engine.{nodesOf, setOf, tensorOf, Sound}
-use Rattle.diagram.specs.EngineLaws.{nodes-length, node-at}
-use Rattle.diagram.specs.Depends.{markOf, DependsLoop, DependsEnsures, MarkNodeRequires, markNumber, markFrom}
-use Rattle.diagram.specs.Depends.{markAt}
+use Rattle.diagram.specs.CanonicalLaws.{normal-node-top, normal-node-low, normal-node-high, zero-weight}
+use Rattle.diagram.specs.Store.{nodesOf, setOf, tensorOf, Sound}
+use Rattle.diagram.specs.StoreLaws.{nodes-length, node-at}
+use Rattle.diagram.specs.Depends.{flagOf, DependsLoop, DependsEnsures, FlagNodeRequires, flagNumber, flagFrom}
+use Rattle.diagram.specs.Depends.{flagAt}
 use Rattle.diagram.specs.declared.node.Node.{Node}
 use Rattle.diagram.specs.declared.node.Edge.{Edge}
 use Rattle.diagram.specs.declared.make.State.{State}
@@ -48,7 +48,7 @@ module _ (d : ℕ) (xs : List Node) (c : Canonical d xs) (j : ℕ) where
     where
       go : Dec (e .weight ≡ 0) → depends j (edgeIn ts e) ≡ depends j (tensorAt ts (e .node))
       go (yes z) =
-          ap (depends j) (edge-zero d xs c e z) ∙ depends-constant j d 0W ∙ sym at-none
+          ap (depends j) (zero-weight d xs c e z) ∙ depends-constant j d 0W ∙ sym at-none
           ∙ ap (λ n. depends j (tensorAt ts n)) (sym (v .zero z))
       go (no n) = unfold edgeIn in depends-scale j _ _ (nonzero-weight _ (v .small) n)
 
@@ -74,58 +74,58 @@ module _ (d : ℕ) (xs : List Node) (c : Canonical d xs) (j : ℕ) where
           ∙ ap₂ _||_ (ap (depends j) (normal-node-low h) ∙ child (x .low) (h .low))
           (ap (depends j) (normal-node-high h) ∙ child (x .high) (h .high)))
 
-pub mark-node : (s : List ℕ) {n r : ℕ} → n ≢ 0 → r ≡ field s 6 (n - 1) → r ≡ markAt s n
-unfolding markAt
-mark-node s {n = zero} p e = absurd (p refl)
-mark-node s {n = suc n} p e = let q : suc n - 1 ≡ n = omega arith in rw q at e
+pub flag-node : (s : List ℕ) {n r : ℕ} → n ≢ 0 → r ≡ field s 6 (n - 1) → r ≡ flagAt s n
+unfolding flagAt
+flag-node s {n = zero} p e = absurd (p refl)
+flag-node s {n = suc n} p e = let q : suc n - 1 ≡ n = omega arith in rw q at e
 
-pub mark-none : (s : List ℕ) (n : ℕ) → n ≡ 0 → 0 ≡ markAt s n
-unfolding markAt
-mark-none s n p = rw p
+pub flag-none : (s : List ℕ) (n : ℕ) → n ≡ 0 → 0 ≡ flagAt s n
+unfolding flagAt
+flag-none s n p = rw p
 
 module _ (i j low high : ℕ) where
-  pub mark-own : i ≡ j → 1 ≡ markFrom i j low high
-  unfolding markFrom
-  mark-own e = rw (eq-eqb i j e)
+  pub flag-own : i ≡ j → 1 ≡ flagFrom i j low high
+  unfolding flagFrom
+  flag-own e = rw (eq-eqb i j e)
 
-  pub mark-low : i ≢ j → low ≡ 1 → 1 ≡ markFrom i j low high
-  unfolding markFrom
-  mark-low n e = rw (ne-eqb i j n, eq-eqb low 1 e)
+  pub flag-low : i ≢ j → low ≡ 1 → 1 ≡ flagFrom i j low high
+  unfolding flagFrom
+  flag-low n e = rw (ne-eqb i j n, eq-eqb low 1 e)
 
-  pub mark-high : i ≢ j → low ≢ 1 → high ≡ markFrom i j low high
-  unfolding markFrom
-  mark-high n e = rw (ne-eqb i j n, ne-eqb low 1 e)
+  pub flag-high : i ≢ j → low ≢ 1 → high ≡ flagFrom i j low high
+  unfolding flagFrom
+  flag-high n e = rw (ne-eqb i j n, ne-eqb low 1 e)
 
-marked-bits : (i j : ℕ) (a b : Bool) → markFrom i j (markNumber a) (markNumber b) ≡ markNumber (eqb i j || (a || b))
-unfolding markFrom markNumber
-marked-bits i j a b = go (eqb i j) a b
+flag-bits : (i j : ℕ) (a b : Bool) → flagFrom i j (flagNumber a) (flagNumber b) ≡ flagNumber (eqb i j || (a || b))
+unfolding flagFrom flagNumber
+flag-bits i j a b = go (eqb i j) a b
   where
-    go : (t a b : Bool) → cond t 1 (cond (eqb (markNumber a) 1) 1 (markNumber b)) ≡ markNumber (t || (a || b))
+    go : (t a b : Bool) → cond t 1 (cond (eqb (flagNumber a) 1) 1 (flagNumber b)) ≡ flagNumber (t || (a || b))
     go true a b = refl
     go false true b = refl
     go false false b = refl
 
-module _ {s : List ℕ} {n : ℕ} {x : Node} (p : MarkNodeRequires s n) (e : x ≡ nodeAt s n) where
+module _ {s : List ℕ} {n : ℕ} {x : Node} (p : FlagNodeRequires s n) (e : x ≡ nodeAt s n) where
   pub parent-low : 16 * x .low .node ≤ length s
   parent-low = rw e (omega (arith, p .within, p .low))
 
   pub parent-high : 16 * x .high .node ≤ length s
   parent-high = rw e (omega (arith, p .within, p .high))
 
--- the mark written, by its steps
-pub mark-by : (j : ℕ) (s : List ℕ) (n : ℕ) {s' : List ℕ} {x : Node} {low high m : ℕ}
-    → x ≡ nodeAt s n → low ≡ markAt s (x .low .node) → high ≡ markAt s (x .high .node)
-    → m ≡ markFrom (x .index) j low high → s' ≡ putField s 6 (n - 1) m
-    → s' ≡ putField s 6 (n - 1) (markOf j s (nodeAt s n))
-unfolding markOf
-mark-by j s n p q r t u = cc
+-- the flag written, by its steps
+pub flag-by : (j : ℕ) (s : List ℕ) (n : ℕ) {s' : List ℕ} {x : Node} {low high m : ℕ}
+    → x ≡ nodeAt s n → low ≡ flagAt s (x .low .node) → high ≡ flagAt s (x .high .node)
+    → m ≡ flagFrom (x .index) j low high → s' ≡ putField s 6 (n - 1) m
+    → s' ≡ putField s 6 (n - 1) (flagOf j s (nodeAt s n))
+unfolding flagOf
+flag-by j s n p q r t u = cc
 
 pub depends-start : (j : ℕ) (s : List ℕ) (last : ℕ) → DependsLoop j s s last 0
-unfolding markAt markNumber setOf
+unfolding flagAt flagNumber setOf
 depends-start j s last = record {
   alike = same-records-refl s;
   within = omega arith;
-  marks = λ st held q n p. let z : n ≡ 0 = omega arith in rw (z, at-none indices (nodesOf s st) (held .nodes) j);
+  flags = λ st held q n p. let z : n ≡ 0 = omega arith in rw (z, at-none indices (nodesOf s st) (held .nodes) j);
 }
 
 module _ {j : ℕ} {s s' : List ℕ} {last m : ℕ} (below : m < last) (h : DependsLoop j s s' last m) where
@@ -146,54 +146,54 @@ module _ {j : ℕ} {s s' : List ℕ} {last m : ℕ} (below : m < last) (h : Depe
     placed : NormalNode (tensors indices xs) m x
     placed = let e : suc m - 1 ≡ m = omega arith in rw (e, here) at (held .nodes .each (suc m) (omega arith) inside)
 
-    pub depends-parent : MarkNodeRequires s' (m + 1)
+    pub depends-parent : FlagNodeRequires s' (m + 1)
     depends-parent = rw (add-one m) record {
       within = record { first = omega arith; last = omega (arith, h .alike .long, held .stored .room) };
       low = omega (arith, placed .low .within);
       high = omega (arith, placed .high .within);
     }
 
-    new : markOf j s' x ≡ markNumber (depends j (tensorAt (setOf s st) (suc m)))
-    unfolding markOf setOf
+    new : flagOf j s' x ≡ flagNumber (depends j (tensorAt (setOf s st) (suc m)))
+    unfolding flagOf setOf
     new = rw (
-      h .marks st held all (x .low .node) (placed .low .within),
-      h .marks st held all (x .high .node)
+      h .flags st held all (x .low .node) (placed .low .within),
+      h .flags st held all (x .high .node)
           (placed .high .within),
     )
-        (marked-bits (x .index) j _ _ ∙ ap markNumber (sym (depends-node indices xs (held .nodes) j (suc m)
+        (flag-bits (x .index) j _ _ ∙ ap flagNumber (sym (depends-node indices xs (held .nodes) j (suc m)
         (omega arith) inside x here)))
 
-  pub depends-more : {s″ : List ℕ} → s″ ≡ putField s' 6 (m + 1 - 1) (markOf j s' (nodeAt s' (m + 1)))
+  pub depends-more : {s″ : List ℕ} → s″ ≡ putField s' 6 (m + 1 - 1) (flagOf j s' (nodeAt s' (m + 1)))
       → DependsLoop j s s″ last (m + 1)
-  unfolding markAt
+  unfolding flagAt
   depends-more q = let e : suc m - 1 ≡ m = omega arith in rw (q, add-one m, e) record {
     alike = same-records-put 6 m _ (omega arith) (omega arith) (h .alike);
     within = omega arith;
-    marks = λ st held all n p. go st held all n p (ℕ-discrete n (suc m));
+    flags = λ st held all n p. go st held all n p (ℕ-discrete n (suc m));
   }
     where
-      old : (n : ℕ) → n ≤ m → markAt (putField s' 6 m (markOf j s' x)) n ≡ markAt s' n
+      old : (n : ℕ) → n ≤ m → flagAt (putField s' 6 m (flagOf j s' x)) n ≡ flagAt s' n
       old zero p = refl
       old (suc n) p = putField-other s' 6 m _ 6 n (omega arith) (omega arith) (omega arith)
 
       go : (st : State) → Sound s st → last ≤ st .count → (n : ℕ) → n ≤ suc m → Dec (n ≡ suc m)
-          → markAt (putField s' 6 m (markOf j s' x)) n ≡ markNumber (depends j (tensorAt (setOf s st) n))
+          → flagAt (putField s' 6 m (flagOf j s' x)) n ≡ flagNumber (depends j (tensorAt (setOf s st) n))
       go st held all n p (yes e) =
           rw e (putField-same s' 6 m _ (omega (arith, h .alike .long, held .stored .room)) ∙ new st held all)
-      go st held all n p (no e) = old n (omega arith) ∙ h .marks st held all n (omega arith)
+      go st held all n p (no e) = old n (omega arith) ∙ h .flags st held all n (omega arith)
 
 pub depends-end : {j : ℕ} {s s' : List ℕ} {last m : ℕ} (st : State) (a : Edge) (r : ℕ) → Sound s st
     → Valid (st .count) a
     → a .node ≡ last → last ≤ m → DependsLoop j s s' last m
-    → r ≡ markAt s' last → DependsEnsures s s' st a j (eqb r 1)
-unfolding tensorOf setOf markNumber
+    → r ≡ flagAt s' last → DependsEnsures s s' st a j (eqb r 1)
+unfolding tensorOf setOf flagNumber
 depends-end {j} {s} {s'} {last} st a r held v e p h q = record {
   alike = h .alike;
-  is = rw (q, h .marks st held (omega (arith, v .within)) last p, ← e)
+  is = rw (q, h .flags st held (omega (arith, v .within)) last p, ← e)
       (bit-one (depends j (tensorAt (tensors indices (nodesOf s st)) (a .node)))
       ∙ sym (depends-edge indices (nodesOf s st) (held .nodes) j a (rw (nodes-length s st) v)));
 }
   where
-    bit-one : (b : Bool) → eqb (markNumber b) 1 ≡ b
+    bit-one : (b : Bool) → eqb (flagNumber b) 1 ≡ b
     bit-one true = refl
     bit-one false = refl

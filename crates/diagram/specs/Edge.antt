@@ -7,7 +7,7 @@ use Prim.Native.Nat.{ℕ, _<_, _≤_}
 use Rattle.field.specs.Weight.{modulus, toWeight, timesW, plusW}
 use Rattle.diagram.specs.Tensor.{fix, indexCount}
 use Rattle.diagram.specs.Meaning.{Valid}
-use Rattle.diagram.specs.Engine.{tensorOf, levelOf}
+use Rattle.diagram.specs.Store.{tensorOf, levelOf}
 use Rattle.diagram.specs.declared.node.Edge.{Edge}
 use Rattle.diagram.specs.declared.node.Node.{Node}
 use Rattle.diagram.specs.declared.make.State.{State}

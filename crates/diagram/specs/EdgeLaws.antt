@@ -15,7 +15,7 @@ use Rattle.diagram.specs.Tensor.{same, scale, plus, multiple, indices, i
 use Rattle.diagram.specs.TensorLaws.{scale-scale, zero-scale, same-refl, same-eq, fix-scale}
 use Rattle.diagram.specs.Top.{FreeBelow}
 use Rattle.diagram.specs.SumOverLaws.{plus-scale}
-use Rattle.diagram.specs.ScaleLaws.{normal-same, multiple-scale}
+use Rattle.diagram.specs.TensorScaleLaws.{normal-same, multiple-scale}
 use Rattle.diagram.specs.Tally.{Set}
 use Rattle.diagram.specs.Node.{nodeAt}
 use Rattle.diagram.specs.Meaning.{tensorAt, edgeIn, tensors, nodeIn, level, Valid, nodeTensor}
@@ -23,8 +23,8 @@ use Rattle.diagram.specs.MeaningLaws.{level-constant, valid-more}
 use Rattle.diagram.specs.Canonical.{Canonical, NormalNode}
 use Rattle.diagram.specs.CanonicalLaws.{node-first, edge-free-below, edge-level, normal-node-low}
 use Rattle.diagram.specs.CanonicalLaws.{normal-node-high}
-use Rattle.diagram.specs.Engine.{nodesOf, setOf, tensorOf, levelOf, Sound}
-use Rattle.diagram.specs.EngineLaws.{nodes-length, node-at}
+use Rattle.diagram.specs.Store.{nodesOf, setOf, tensorOf, levelOf, Sound}
+use Rattle.diagram.specs.StoreLaws.{nodes-length, node-at}
 use Rattle.diagram.specs.Edge.{IsMultiple, IsSum, child, IsCofactor, CofactorRequires}
 use Rattle.diagram.specs.TopLaws.{fix-free-below, free-below-fix}
 use Rattle.diagram.specs.TestLaws.{cases}
@@ -83,18 +83,18 @@ module _ (d : ℕ) (xs : List Node) (c : Canonical d xs) (a b : Edge) (va : Vali
   abbrev ts : Set d
   ts = tensors d xs
 
-  bare : multiple (edgeIn ts a) (edgeIn ts b) ≡ same (tensorAt ts (a .node)) (tensorAt ts (b .node))
+  multiple-of-nodes : multiple (edgeIn ts a) (edgeIn ts b) ≡ same (tensorAt ts (a .node)) (tensorAt ts (b .node))
   unfolding edgeIn multiple
-  bare = multiple-scale _ _ _ _ (nonzero-weight _ (va .small) na) (nonzero-weight _ (vb .small) nb)
+  multiple-of-nodes = multiple-scale _ _ _ _ (nonzero-weight _ (va .small) na) (nonzero-weight _ (vb .small) nb)
       ∙ ap₂ same (normal-same _ (node-first d xs c (a .node) (va .within)))
       (normal-same _ (node-first d xs c (b .node) (vb .within)))
 
   pub multiple-one : a .node ≡ b .node → multiple (edgeIn ts a) (edgeIn ts b) ≡ true
-  multiple-one e = bare ∙ rw e (same-refl _)
+  multiple-one e = multiple-of-nodes ∙ rw e (same-refl _)
 
   pub multiple-two : a .node ≢ b .node → multiple (edgeIn ts a) (edgeIn ts b) ≡ false
   multiple-two n =
-      bare ∙ cases (same (tensorAt ts (a .node)) (tensorAt ts (b .node)))
+      multiple-of-nodes ∙ cases (same (tensorAt ts (a .node)) (tensorAt ts (b .node)))
       (λ q. absurd (n (c .unique _ _ (va .within) (vb .within) (same-eq _ _ q)))) (λ q. q)
 
 -- levels: the index of the edge's node, 24 for a constant
@@ -134,15 +134,15 @@ module _ (s : List ℕ) (st : State) (held : Sound s st) where
 
 -- the level, as the code reads it
 module _ {s : List ℕ} {st : State} {a : Edge} (held : Sound s st) (v : Valid (st .count) a) where
-  pub top-none : a .node ≡ 0 → indexCount ≡ levelOf s st a
-  top-none z = sym (level-none s st held a z)
+  pub level-of-constant : a .node ≡ 0 → indexCount ≡ levelOf s st a
+  level-of-constant z = sym (level-none s st held a z)
 
   module _ {x : Node} (n : a .node ≢ 0) (read : x ≡ nodeAt s (a .node)) where
-    pub top-node : x .index ≡ levelOf s st a
-    top-node = sym (level-node s st held a x v n read)
+    pub level-of-node : x .index ≡ levelOf s st a
+    level-of-node = sym (level-node s st held a x v n read)
 
-    pub top-inside : x .index ≤ indexCount
-    top-inside = omega (arith, top-node, index-inside s st held a v n)
+    pub level-inside : x .index ≤ indexCount
+    level-inside = omega (arith, level-of-node, index-inside s st held a v n)
 
 module _ {s : List ℕ} {st : State} {a : Edge} {k : ℕ} (held : Sound s st) (f : CofactorRequires s st a k) where
   cofactor-of : {b : Bool} {r : Edge} → Valid (st .count) r → tensorOf s st r ≡ fix k b (tensorOf s st a)

@@ -12,7 +12,7 @@ use Rattle.field.specs.Weight.{Weight, toWeight, 0W}
 use Rattle.field.specs.Field.{Represents}
 use Rattle.field.specs.RingLaws.{weight-number}
 use Rattle.diagram.specs.Tensor.{Bits, bits, middle, fresh, assign}
-use Rattle.diagram.specs.BitsLaws.{assign-other}
+use Rattle.diagram.specs.TensorBitsLaws.{assign-other}
 use Rattle.diagram.specs.Gate.{Matrix, numbers, matrix, bit, onQubit, shape, Rule, rule, entryOn, entry}
 use Rattle.diagram.specs.Gate.{firstQubitOn, secondQubitOn, firstQubit, secondQubit, byBits, ruleTable}
 use Rattle.diagram.specs.Entry.{usesIndex, AgreeOn}

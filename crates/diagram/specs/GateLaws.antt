@@ -60,9 +60,9 @@ unit-at d n p f = at-tabulate d (unitEntry n) (unit-sees d n p) f
 abbrev Row : Type 0
 Row = Matrix × Matrix × Matrix
 
-abbrev Agree : List Row → Type 0
-Agree [] = Unit {0}
-Agree ((a, b, c) ∷ l) = (numbers (product a b) ≡ numbers c) × Agree l
+abbrev RelationsHold : List Row → Type 0
+RelationsHold [] = Unit {0}
+RelationsHold ((a, b, c) ∷ l) = (numbers (product a b) ≡ numbers c) × RelationsHold l
 
 abbrev one : Matrix
 one = rows 1W 0W 0W 1W
@@ -87,7 +87,7 @@ relations q =
     ∷ (t, matrix (gate.Td q), one)
     ∷ []
 
-pub gates-agree : (q : ℕ) → Agree (relations q)
+pub gates-agree : (q : ℕ) → RelationsHold (relations q)
 unfolding product numbers matrix plusW timesW negateW toWeight 0W 1W imaginaryUnit inverseRootTwo
 gates-agree q = (refl, (refl, (refl, (refl, (refl, (refl, (refl, (refl, (refl, (refl, tt))))))))))
 

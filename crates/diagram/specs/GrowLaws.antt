@@ -5,12 +5,13 @@ use Prim.Native.Nat.{ℕ, zero, suc, _*_, _≤_, _<_}
 use native.Mathlib.Nat.{not-suc-le-zero, le-of-suc-le-suc}
 use Rattle.field.specs.Weight.{Weight, sameW, inverseW}
 use Rattle.diagram.specs.Tensor.{indices, indices-count, Tensor, weight, split, branch, Bits, tail, bits, at}
-use Rattle.diagram.specs.Tensor.{value, same, constant, isZero, scale, plus, times, first, top, lower, top2, fix}
+use Rattle.diagram.specs.Tensor.{value, same, constant, isZero, scale, plus, times, first, top, lowerTop}
+use Rattle.diagram.specs.Tensor.{top2, fix}
 use Rattle.diagram.specs.Tensor.{depends, joined, normal, multiple}
 use Rattle.diagram.specs.TensorLaws.{at-constant, same-eq, eq-same, scale-constant, fix-constant, first-constant}
 use Rattle.diagram.specs.TensorLaws.{zero-constant}
 use Rattle.diagram.specs.TestLaws.{branch-ap, and-same}
-use Rattle.diagram.specs.RingLaws.{plus-constant, times-constant}
+use Rattle.diagram.specs.TensorRingLaws.{plus-constant, times-constant}
 use Rattle.diagram.specs.TopLaws.{top-constant}
 use Rattle.diagram.specs.Tabulate.{cons, tabulate, Sees}
 use Rattle.diagram.specs.TabulateLaws.{sees-cons}
@@ -79,7 +80,7 @@ module _ (m : ℕ) where
 
   pub grow-top2 : {d : ℕ} (A B : Tensor d) → top2 (grow m A) (grow m B) ≡ top2 A B
   unfolding top2
-  grow-top2 A B = ap₂ lower (grow-top A) (grow-top B)
+  grow-top2 A B = ap₂ lowerTop (grow-top A) (grow-top B)
 
   pub grow-fix : {d : ℕ} (k : ℕ) (b : Bool) (A : Tensor d) → fix k b (grow m A) ≡ grow m (fix k b A)
   unfolding fix grow

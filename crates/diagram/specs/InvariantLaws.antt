@@ -9,15 +9,15 @@ use lib.ListN.{getD, set}
 use Rattle.diagram.specs.Tensor.{indices}
 use Rattle.diagram.specs.Tally.{Set, Step}
 use Rattle.diagram.specs.Meaning.{edgeIn, tensors, appendTensors, Valid}
-use Rattle.diagram.specs.FreeLaws.{depends-free}
+use Rattle.diagram.specs.TopFreeLaws.{depends-free}
 use Rattle.diagram.specs.Top.{Free}
 use Rattle.diagram.specs.Lower.{LowerRequires}
 use Rattle.diagram.specs.Node.{SameRecords}
 use Rattle.diagram.specs.Depends.{DependsEnsures}
 use Rattle.diagram.specs.Sets.{PrefixOf}
-use Rattle.diagram.specs.Engine.{nodesOf, setOf, tensorOf, RefinesEdge, Refines}
-use Rattle.diagram.specs.EngineLaws.{set-length, same-records-tensor, same-records-prefix, same-records-sound}
-use Rattle.diagram.specs.EngineLaws.{refines-edge, refines-full, refines-count, sets-prefix}
+use Rattle.diagram.specs.Store.{nodesOf, setOf, tensorOf, RefinesEdge, Refines}
+use Rattle.diagram.specs.StoreLaws.{set-length, same-records-tensor, same-records-prefix, same-records-sound}
+use Rattle.diagram.specs.StoreLaws.{refines-edge, refines-full, refines-count, sets-prefix}
 use Rattle.diagram.specs.Cache.{Remembers}
 use Rattle.diagram.specs.CacheLaws.{remembers-nothing, remembers-more}
 use Rattle.diagram.specs.Operation.{RefinesCached}
@@ -31,8 +31,8 @@ use Rattle.diagram.specs.RegistersLaws.{register-valid, holds-at, holds-
 use Rattle.diagram.specs.Collect.{CollectRequires, CollectEnsures}
 use Rattle.diagram.specs.Invariant.{heldTensor, Invariant}
 use Rattle.diagram.specs.declared.node.Edge.{Edge}
-use Rattle.diagram.specs.declared.registers.Held.{Held}
-use Rattle.diagram.specs.declared.registers.Held.the-variants as held
+use Rattle.diagram.specs.declared.registers.RegisterContent.{RegisterContent}
+use Rattle.diagram.specs.declared.registers.RegisterContent.the-variants as content
 use Rattle.diagram.specs.declared.make.State.{State}
 use Rattle.diagram.specs.declared.join.Outcome.{Outcome}
 use Rattle.diagram.specs.declared.join.Outcome.the-variants as outcome
@@ -40,13 +40,13 @@ use Rattle.diagram.specs.declared.registers.Register.{Register}
 
 -- what is read from a register is an edge of the store's nodes
 
-unfoldable edgeOf : Held → Edge
-edgeOf (held.Edge e) = e
-edgeOf held.Empty = record { weight = 0; node = 0 }
+unfoldable edgeOf : RegisterContent → Edge
+edgeOf (content.Edge e) = e
+edgeOf content.Empty = record { weight = 0; node = 0 }
 
-unfoldable isEdge : Held → Bool
-isEdge (held.Edge e) = true
-isEdge held.Empty = false
+unfoldable isEdge : RegisterContent → Bool
+isEdge (content.Edge e) = true
+isEdge content.Empty = false
 
 pub invariant-start : {c s s' : List ℕ} {st : State} {rs : List Register} → StartEnsures c s s' st → rs ≡ emptyRegisters
     → Invariant c s' st rs
@@ -125,24 +125,24 @@ pub invariant-collect : {c' s s' : List ℕ} {st st' : State} {rs rs' : List Reg
 invariant-collect {s' = s'} {st' = st'} r =
     record { sound = r .sound; cache = remembers-nothing s' st' (r .forgotten); registers = r .registers }
 
-pub read-valid : {m : ℕ} {rs : List Register} {i : ℕ} {e : Edge} (h : Held)
-    → RegistersValid m rs → i < 16 → GetEnsures rs i h → h ≡ held.Edge e → Valid m e
+pub read-valid : {m : ℕ} {rs : List Register} {i : ℕ} {e : Edge} (h : RegisterContent)
+    → RegistersValid m rs → i < 16 → GetEnsures rs i h → h ≡ content.Edge e → Valid m e
 unfolding heldBy edgeOf isEdge
 read-valid {m} {rs} {i} {e} h g p r q = go (occupied (getD rs i emptyRegister)) refl (sym q ∙ r .is)
   where
     go : (b : Bool) → occupied (getD rs i emptyRegister) ≡ b
-        → held.Edge e ≡ cond b (held.Edge (getD rs i emptyRegister .edge)) held.Empty → Valid m e
+        → content.Edge e ≡ cond b (content.Edge (getD rs i emptyRegister .edge)) content.Empty → Valid m e
     go true f k = subst (Valid m) (sym (ap edgeOf k)) (register-valid m rs i (g .valid) (omega (arith, g .sixteen)) f)
     go false f k = absurd (false≢true (sym (ap isEdge k)))
 
-pub holds-read : {d : ℕ} (ts : Set d) {rs : List Register} {i : ℕ} {h : Held} → GetEnsures rs i h
+pub holds-read : {d : ℕ} (ts : Set d) {rs : List Register} {i : ℕ} {h : RegisterContent} → GetEnsures rs i h
     → getD (holdsAll ts rs) i none ≡ heldTensor ts h
 unfolding heldBy holds
 holds-read ts {rs} {i} {h} r =
     holds-at ts rs i ∙ go (occupied (getD rs i emptyRegister)) ∙ ap (heldTensor ts) (sym (r .is))
   where
     go : (b : Bool) → cond b (some (edgeIn ts (getD rs i emptyRegister .edge))) none
-        ≡ heldTensor ts (cond b (held.Edge (getD rs i emptyRegister .edge)) held.Empty)
+        ≡ heldTensor ts (cond b (content.Edge (getD rs i emptyRegister .edge)) content.Empty)
     go true = refl
     go false = refl
 

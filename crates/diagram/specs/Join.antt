@@ -3,7 +3,7 @@ use mathlib.Core.List.{List}
 use Prim.Native.Nat.{ℕ, suc, _<_}
 use Rattle.diagram.specs.Top.{FreeBelow}
 use Rattle.diagram.specs.Meaning.{Valid}
-use Rattle.diagram.specs.Engine.{tensorOf}
+use Rattle.diagram.specs.Store.{tensorOf}
 use Rattle.diagram.specs.Tensor.{indexCount}
 use Rattle.diagram.specs.declared.node.Edge.{Edge}
 use Rattle.diagram.specs.declared.make.State.{State}

@@ -13,8 +13,8 @@ use Rattle.diagram.specs.Tensor.{same, isZero, scale, first, top, fix, j
 use Rattle.diagram.specs.TensorLaws.{scale-scale, scale-one, joined-scale, same-eq, eq-same}
 use Rattle.diagram.specs.TopLaws.{top-constant}
 use Rattle.diagram.specs.Top.{FreeBelow}
-use Rattle.diagram.specs.ScaleLaws.{same-scale, unscale, normal-scale, normal-same}
-use Rattle.diagram.specs.FreeLaws.{free-below-scale, first-joined}
+use Rattle.diagram.specs.TensorScaleLaws.{same-scale, unscale, normal-scale, normal-same}
+use Rattle.diagram.specs.TopFreeLaws.{free-below-scale, first-joined}
 use Rattle.diagram.specs.Tally.{Set, member, join, Step}
 use Rattle.diagram.specs.TallyCasesLaws.{join-present, join-new, join-same}
 use Rattle.diagram.specs.NodeLaws.{node-eq, edge-eq, decides-true, decides-false}
@@ -23,7 +23,7 @@ use Rattle.diagram.specs.MeaningLaws.{valid-more, at-new, at-zero, tenso
 use Rattle.diagram.specs.MeaningLaws.{member-none}
 use Rattle.diagram.specs.Canonical.{NormalNode, Canonical}
 use Rattle.diagram.specs.CanonicalLaws.{normal-node-top, normal-node-low, normal-node-high, canonical-more}
-use Rattle.diagram.specs.CanonicalLaws.{node-first, edge-is-zero, edge-nonzero, edge-unique}
+use Rattle.diagram.specs.CanonicalLaws.{node-first, edge-is-zero, edge-nonzero, canonical-edge-unique}
 use Rattle.diagram.specs.Normalise.{NormaliseEnsures, NormaliseRequires}
 use Rattle.diagram.specs.NormaliseLaws.{weight-times-zero}
 use Rattle.diagram.specs.Sets.{PrefixOf}
@@ -32,8 +32,8 @@ use Rattle.diagram.specs.Node.{nodeAt, Decides}
 use Rattle.diagram.specs.Table.{Absent}
 use Rattle.diagram.specs.Make.{MakeAt, MakeEnsures, FoundOrAdded, old, new}
 use Rattle.diagram.specs.MakeLaws.{make-at, make-full}
-use Rattle.diagram.specs.Engine.{nodesOf, setOf, tensorOf, Sound, RefinesEdge, RefinesFull}
-use Rattle.diagram.specs.EngineLaws.{nodes-length, node-at, refines-stays}
+use Rattle.diagram.specs.Store.{nodesOf, setOf, tensorOf, Sound, RefinesEdge, RefinesFull}
+use Rattle.diagram.specs.StoreLaws.{nodes-length, node-at, refines-stays}
 use Rattle.diagram.specs.Join.{JoinRequires}
 use Rattle.diagram.specs.TestLaws.{cases, no-some}
 use Rattle.diagram.specs.declared.node.Node.{Node}
@@ -56,9 +56,9 @@ module _ (d : ℕ) (xs : List Node) (c : Canonical d xs) where
   normal-node-unique x y p q h g e =
       let i : x .index ≡ y .index = some-same (sym (normal-node-top h) ∙ ap top e ∙ normal-node-top g) in
       node-eq i
-      (edge-unique d xs c (valid-more _ p (h .low)) (valid-more _ q (g .low))
+      (canonical-edge-unique d xs c (valid-more _ p (h .low)) (valid-more _ q (g .low))
       (sym (normal-node-low h) ∙ ap₂ (λ k T. fix k false T) i e ∙ normal-node-low g))
-      (edge-unique d xs c (valid-more _ p (h .high)) (valid-more _ q (g .high))
+      (canonical-edge-unique d xs c (valid-more _ p (h .high)) (valid-more _ q (g .high))
       (sym (normal-node-high h) ∙ ap₂ (λ k T. fix k true T) i e ∙ normal-node-high g))
     where
       some-same : {m n : ℕ} → some m ≡ some n → m ≡ n
@@ -116,7 +116,8 @@ module _ (d : ℕ) (xs : List Node) (c : Canonical d xs) where
 
     differ : same (edgeIn ts l) (edgeIn ts h) ≡ false
     differ =
-        cases (same (edgeIn ts l) (edgeIn ts h)) (λ e. absurd (ne (edge-unique d xs c vl vh (same-eq _ _ e)))) (λ e. e)
+        cases (same (edgeIn ts l) (edgeIn ts h)) (λ e. absurd (ne (canonical-edge-unique d xs c vl vh (same-eq _ _ e))))
+        (λ e. e)
 
     -- the first nonzero value of the node's tensor is 1
     first-edge : (e : Edge) → Valid (length xs) e → e .weight ≡ 1 → first (edgeIn ts e) ≡ 1W

@@ -15,7 +15,7 @@ pub mod Meaning
 pub mod Registers
 pub mod Table
 pub mod Canonical
-pub mod Engine
+pub mod Store
 pub mod Cache
 pub mod Operation
 pub mod Invariant
@@ -45,21 +45,22 @@ pub mod SumOver
 pub mod TallyStep
 pub mod Reach
 pub mod Grow
--- Laws of tests, bits and tensors
+-- Laws of weights, tests, bits and tensors
+pub mod WeightsLaws
 pub mod TestLaws
-pub mod BitsLaws
+pub mod TensorBitsLaws
 pub mod TensorLaws
-pub mod RingLaws
+pub mod TensorRingLaws
 pub mod DescendLaws
 pub mod TopLaws
-pub mod FreeLaws
-pub mod ScaleLaws
+pub mod TopFreeLaws
+pub mod TensorScaleLaws
 pub mod SumOverLaws
 pub mod TabulateLaws
-pub mod FixBelowLaws
+pub mod BuildFixBelowLaws
 -- Laws of the tally's steps
 pub mod SetsLaws
-pub mod NormalSetLaws
+pub mod SetsNormalLaws
 pub mod TallyStepLaws
 pub mod TallySumLaws
 pub mod TallyContLaws
@@ -71,7 +72,7 @@ pub mod TallyShareLaws
 pub mod TallyCollectLaws
 pub mod TallyCoverLaws
 pub mod TallyValueLaws
-pub mod SetAfterLaws
+pub mod TallySetAfterLaws
 pub mod GateLaws
 pub mod GrowLaws
 pub mod TallyGrowLaws
@@ -84,7 +85,7 @@ pub mod InsertLaws
 pub mod MakeLaws
 pub mod MeaningLaws
 pub mod CanonicalLaws
-pub mod EngineLaws
+pub mod StoreLaws
 pub mod NormaliseLaws
 pub mod JoinLaws
 pub mod EdgeLaws
@@ -99,17 +100,17 @@ pub mod UnitLaws
 pub mod CacheLaws
 pub mod MaskLaws
 pub mod OperationLaws
-pub mod HalvesLaws
+pub mod OperationHalvesLaws
 pub mod SumLaws
 pub mod ContractLaws
 pub mod LowerLaws
-pub mod OutcomeLaws
+pub mod OperationOutcomeLaws
 -- Laws of registers and collection
 pub mod RegistersLaws
 pub mod MarkLaws
-pub mod KeptLaws
+pub mod MarkCollectLaws
 pub mod CompactLaws
-pub mod SurvivorLaws
-pub mod RenumberLaws
+pub mod CompactSurvivorLaws
+pub mod CompactRenumberLaws
 pub mod CollectLaws
 pub mod InvariantLaws

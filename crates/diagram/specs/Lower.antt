@@ -1,4 +1,4 @@
--- Lowering in the store (document 01, low): what it asks, and its parts, as the code comes to them.
+-- Lowering in the store (document 01, low): what it asks, and its parts, in the order of the code.
 use mathlib.Core.Path.{_≡_}
 use mathlib.Core.Logic.{_≢_}
 use mathlib.Core.List.{List}
@@ -6,7 +6,7 @@ use Prim.Native.Nat.{ℕ, _-_, _≤_, _<_}
 use Rattle.diagram.specs.Tensor.{indices}
 use Rattle.diagram.specs.Tally.{Binary, low}
 use Rattle.diagram.specs.Top.{Free}
-use Rattle.diagram.specs.Engine.{tensorOf, levelOf}
+use Rattle.diagram.specs.Store.{tensorOf, levelOf}
 use Rattle.diagram.specs.declared.node.Edge.{Edge}
 use Rattle.diagram.specs.declared.make.State.{State}
 

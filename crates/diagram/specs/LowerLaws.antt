@@ -12,28 +12,28 @@ use Rattle.field.specs.RingLaws.{nonzero-weight, weight-one}
 use Rattle.diagram.specs.Tensor.{Tensor, top, fix, indices, indices-count, renameDown, indexCount}
 use Rattle.diagram.specs.TensorLaws.{fix-scale, scale-one}
 use Rattle.diagram.specs.TopLaws.{top-depends}
-use Rattle.diagram.specs.ScaleLaws.{scale-cancel}
+use Rattle.diagram.specs.TensorScaleLaws.{scale-cancel}
 use Rattle.diagram.specs.Tally.{both, join, low}
 use Rattle.diagram.specs.TallyStepLaws.{writes-answer, writes-grows}
 use Rattle.diagram.specs.TallyStep.{ScaledStep, Writes}
-use Rattle.diagram.specs.FreeLaws.{free-fix}
+use Rattle.diagram.specs.TopFreeLaws.{free-fix}
 use Rattle.diagram.specs.Top.{Free}
 use Rattle.diagram.specs.TallyLowLaws.{low-writes, low-scaled, rename-down-part}
 use Rattle.diagram.specs.TallyCasesLaws.{low-constant, low-above, low-here, low-both}
 use Rattle.diagram.specs.Meaning.{tensorAt, edgeIn, Valid}
 use Rattle.diagram.specs.MeaningLaws.{level-same}
-use Rattle.diagram.specs.Engine.{setOf, tensorOf, levelOf, Sound, Refines}
+use Rattle.diagram.specs.Store.{setOf, tensorOf, levelOf, Sound, Refines}
 use Rattle.diagram.specs.EdgeLaws.{free-below-level, level-none, index-inside}
 use Rattle.diagram.specs.Edge.{CofactorRequires, IsCofactor}
 use Rattle.diagram.specs.Join.{JoinRequires}
-use Rattle.diagram.specs.EngineLaws.{join-grows, tensor-kept}
+use Rattle.diagram.specs.StoreLaws.{join-grows, tensor-kept}
 use Rattle.diagram.specs.Cache.{KeyFits, opStep, keyStep}
 use Rattle.diagram.specs.Operation.{OperationRequires, RefinesCached, lowestOf, MultipleOutcome, highStep}
 use Rattle.diagram.specs.Operation.{HighRequires, edgesMeasure, PartsGrow}
 use Rattle.diagram.specs.OperationLaws.{cached-at, cached-stays, cached-step, cached-as, cached-scaled}
-use Rattle.diagram.specs.HalvesLaws.{measure-same, top-node, top-leaf}
-use Rattle.diagram.specs.HalvesLaws.{low-part-full, high-part-ready, high-part-measure, low-part-refines}
-use Rattle.diagram.specs.HalvesLaws.{high-part-full, high-ready, high-joinable, high-part-refines}
+use Rattle.diagram.specs.OperationHalvesLaws.{measure-same, top-node, top-leaf}
+use Rattle.diagram.specs.OperationHalvesLaws.{low-part-full, high-part-ready, high-part-measure, low-part-refines}
+use Rattle.diagram.specs.OperationHalvesLaws.{high-part-full, high-ready, high-joinable, high-part-refines}
 use Rattle.diagram.specs.Lower.{LowerRequires, LowerReduced, LowerHighRequires, lowFirst}
 use Rattle.diagram.specs.declared.node.Edge.{Edge}
 use Rattle.diagram.specs.declared.make.State.{State}

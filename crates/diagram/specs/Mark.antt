@@ -49,7 +49,7 @@ pub record SpreadEnsures (s s' : List ℕ) (count : ℕ) : Type 0 where
       → (j : ℕ) → 1 ≤ j → j ≤ count → Marked s' j → b j ≢ 0
 
 -- node n is looked at, whatever the marks and nodes were
-pub record LookEnsures (count : ℕ) (s s' : List ℕ) (n : ℕ) : Type 0 where
+pub record MarkChildrenEnsures (count : ℕ) (s s' : List ℕ) (n : ℕ) : Type 0 where
   pub on : (r : ℕ → ℕ) (f : ℕ → Node) → ChildrenBefore f count → SpreadLoop r f count s n
       → SpreadLoop r f count s' (n - 1)
 

@@ -14,7 +14,8 @@ use Rattle.diagram.specs.FieldsLaws.{putField-length, putField-same, put
 use Rattle.diagram.specs.Node.{nodeAt}
 use Rattle.diagram.specs.NodeLaws.{put-node}
 use Rattle.diagram.specs.Compact.{ChildrenWithin}
-use Rattle.diagram.specs.Mark.{ChildrenBefore, SpreadEnsures, Marked, SpreadLoop, MarkEnsures, LookEnsures}
+use Rattle.diagram.specs.Mark.{ChildrenBefore, SpreadEnsures, Marked, SpreadLoop, MarkEnsures}
+use Rattle.diagram.specs.Mark.{MarkChildrenEnsures}
 use Rattle.diagram.specs.Mark.{AllMarked, ExactlyMarked, RootsEnsures, NoneMarked, RootEnsures, RootsLoop}
 use Rattle.diagram.specs.Mark.{marksOf, ReachEnsures}
 use Rattle.diagram.specs.Registers.{occupied, edgesOf, emptyRegister, AllValid}
@@ -108,14 +109,15 @@ spread-end s s' count down k = record {
   least = k .least;
 }
 
-pub look-dead : {count : ℕ} {s : List ℕ} {n : ℕ} {x : ℕ} → x ≡ field s 5 (n - 1) → 1 ≤ n → n ≤ count → x ≡ 0
-    → LookEnsures count s s n
-look-dead e p q z = record { on = λ r f down k. spread-dead r f _ _ _ down k p q (sym e ∙ z) }
+pub children-of-unmarked : {count : ℕ} {s : List ℕ} {n : ℕ} {x : ℕ} → x ≡ field s 5 (n - 1) → 1 ≤ n → n ≤ count → x ≡ 0
+    → MarkChildrenEnsures count s s n
+children-of-unmarked e p q z = record { on = λ r f down k. spread-dead r f _ _ _ down k p q (sym e ∙ z) }
 
-pub look-live : {count : ℕ} {s s₁ s₂ : List ℕ} {n : ℕ} {m : ℕ} {x : Node} → m ≡ field s 5 (n - 1) → 1 ≤ n → n ≤ count
+pub children-of-marked : {count : ℕ} {s s₁ s₂ : List ℕ} {n : ℕ} {m : ℕ} {x : Node} → m ≡ field s 5 (n - 1) → 1 ≤ n → n
+    ≤ count
     → m ≢ 0 → x ≡ nodeAt s n
-    → MarkEnsures s s₁ (x .low .node) → MarkEnsures s₁ s₂ (x .high .node) → LookEnsures count s s₂ n
-look-live {count} {s} {s₁} {s₂} {n} e p q d h m₁ m₂ =
+    → MarkEnsures s s₁ (x .low .node) → MarkEnsures s₁ s₂ (x .high .node) → MarkChildrenEnsures count s s₂ n
+children-of-marked {count} {s} {s₁} {s₂} {n} e p q d h m₁ m₂ =
     record {
       on = λ r f down k.
           (let is : _ ≡ f n = h ∙ ap (λ (g : ℕ → Node). g n) (k .kept) in

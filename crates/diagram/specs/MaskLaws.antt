@@ -15,7 +15,7 @@ use Rattle.field.specs.RingLaws.{weight-one}
 use Rattle.diagram.specs.Tensor.{bits, assign, members, power2, membersFrom}
 use Rattle.diagram.specs.TallyShareLaws.{members-from-at, members-more}
 use Rattle.diagram.specs.Mask.{DoubledLoop, MaskWithout, MaskFrom}
-use Rattle.diagram.specs.BitsLaws.{assign-same}
+use Rattle.diagram.specs.TensorBitsLaws.{assign-same}
 
 pub one-shl : (l : ℕ) → l < 64 → (1 * 2 ^ l) % 2 ^ 64 ≡ 2 ^ l
 one-shl l h = shl-exact {a = 1} 1 l 64 (lit< tt) (subst (λ (x : ℕ). x ≤ 64) (sym (one-add l)) h) ∙ one-mul (2 ^ l)

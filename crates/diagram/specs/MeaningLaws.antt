@@ -70,11 +70,11 @@ level-kept d {xs} {e = e} g v =
 
 -- the tensors of a list that grows
 
-grow-append : {d : ℕ} (ts : Set d) (xs ys : List Node)
+tensors-append : {d : ℕ} (ts : Set d) (xs ys : List Node)
     → appendTensors ts (xs ++ ys) ≡ appendTensors (appendTensors ts xs) ys
 unfolding appendTensors
-grow-append ts [] ys = refl
-grow-append ts (x ∷ xs) ys = grow-append (ts ++ (nodeTensor ts x ∷ [])) xs ys
+tensors-append ts [] ys = refl
+tensors-append ts (x ∷ xs) ys = tensors-append (ts ++ (nodeTensor ts x ∷ [])) xs ys
 
 grow-grows : {d : ℕ} (ts : Set d) (xs : List Node) → PrefixOf ts (appendTensors ts xs)
 unfolding appendTensors
@@ -96,11 +96,11 @@ module _ (d : ℕ) where
   pub tensors-more : (xs : List Node) (x : Node)
       → tensors d (xs ++ (x ∷ [])) ≡ tensors d xs ++ (nodeTensor (tensors d xs) x ∷ [])
   unfolding tensors appendTensors
-  tensors-more xs x = grow-append [] xs (x ∷ [])
+  tensors-more xs x = tensors-append [] xs (x ∷ [])
 
   pub tensors-prefix : {xs ys : List Node} → PrefixOf xs ys → PrefixOf (tensors d xs) (tensors d ys)
   unfolding tensors
-  tensors-prefix {xs} g = rw (g .is, grow-append [] xs (g .more)) (grow-grows (appendTensors [] xs) (g .more))
+  tensors-prefix {xs} g = rw (g .is, tensors-append [] xs (g .more)) (grow-grows (appendTensors [] xs) (g .more))
 
   pub tensors-length : (xs : List Node) → length (tensors d xs) ≡ length xs
   unfolding tensors

@@ -3,7 +3,7 @@
 --   field 0   index + 256 · low weight + 512 · (high weight / 65536)
 --   field 1   low node             field 2   high weight % 65536          field 3   high node
 --   field 4   the unique table's head of bucket n - 1                     field 5   the next node of n's chain
---   fields 6 and 7   free: four bytes
+--   field 6   a flag that `depends` sets while it runs                     field 7   free
 use mathlib.Core.Path.{_≡_}
 use mathlib.Core.List.{List, [], _∷_, _++_}
 use mathlib.Core.Bool.{Bool, true, false}

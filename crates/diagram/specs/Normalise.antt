@@ -19,7 +19,7 @@ pub record NormaliseRequires (k : ℕ) (l h : Edge) : Type 0 where
 
 -- w times the node x is l and h joined at k, and x's first weight that is not 0 is 1
 pub record NormaliseEnsures (k : ℕ) (l h : Edge) (w : ℕ) (x : Node) : Type 0 where
-  pub narrow : NodeFits x
+  pub fits : NodeFits x
   pub index : x .index ≡ k
   pub low-node : x .low .node ≡ l .node
   pub high-node : x .high .node ≡ h .node

@@ -27,7 +27,7 @@ module _ {k : ℕ} {l h : Edge} (n : NormaliseRequires k l h) where
       })
   normalise-high z =
       record {
-        narrow = omega arith;
+        fits = omega arith;
         index = refl;
         low-node = refl;
         high-node = refl;
@@ -50,7 +50,7 @@ module _ {k : ℕ} {l h : Edge} (n : NormaliseRequires k l h) where
       })
   normalise-low z p q =
       record {
-        narrow = omega (arith, q .small);
+        fits = omega (arith, q .small);
         index = refl;
         low-node = refl;
         high-node = refl;

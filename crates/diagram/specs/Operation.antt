@@ -6,7 +6,7 @@ use Prim.Native.Nat.{ℕ, min, suc, _-_, _<_}
 use Rattle.diagram.specs.Tensor.{indices, Tensor, fix, indexCount}
 use Rattle.diagram.specs.Tally.{Step, Set, Binary, _>>=_}
 use Rattle.diagram.specs.Meaning.{Valid}
-use Rattle.diagram.specs.Engine.{levelOf, tensorOf, Sound, Refines}
+use Rattle.diagram.specs.Store.{levelOf, tensorOf, Sound, Refines}
 use Rattle.diagram.specs.Edge.{IsMultiple}
 use Rattle.diagram.specs.Cache.{EdgeFits, RememberEnsures, NoneLater, Remembers}
 use Rattle.diagram.specs.Top.{FreeBelow}
@@ -38,17 +38,17 @@ pub record RefinesCached (c' s s' : List ℕ) (st : State) (f : Step indices) (r
 abbrev pub lowestOf : List ℕ → State → Edge → Edge → ℕ
 lowestOf s st a b = min (levelOf s st a) (levelOf s st b)
 
--- an answer whose edge, if there is one, an entry of the cache has room for
+-- an outcome whose edge, if there is one, an entry of the cache has room for
 abbrev pub OutcomeFits : Outcome → Type 0
 OutcomeFits (outcome.Edge e st) = EdgeFits e
 OutcomeFits outcome.Full = Unit {0}
 
--- the answer r is w times the answer m
+-- the outcome r is w times the outcome m
 abbrev pub MultipleOutcome : ℕ → Outcome → Outcome → Type 0
 MultipleOutcome w (outcome.Edge e st) r = (f : Edge) × (IsMultiple w e f × (r ≡ outcome.Edge f st))
 MultipleOutcome w outcome.Full r = r ≡ outcome.Full
 
--- the answer m was remembered, unless it is full
+-- the outcome m was remembered, unless it is full
 abbrev pub KeepEnsures : List ℕ → List ℕ → ℕ → Key → Outcome → Type 0
 KeepEnsures c c' epoch k (outcome.Edge e st) = RememberEnsures c c' epoch k e
 KeepEnsures c c' epoch k outcome.Full = c' ≡ c

@@ -12,10 +12,10 @@ use Rattle.diagram.specs.Sets.{PrefixOf}
 use Rattle.diagram.specs.TallyStepLaws.{writes-again, writes-answer}
 use Rattle.diagram.specs.TallyStep.{Writes, ScaledStep}
 use Rattle.diagram.specs.Meaning.{Valid}
-use Rattle.diagram.specs.Engine.{setOf, tensorOf, Refines}
+use Rattle.diagram.specs.Store.{setOf, tensorOf, Refines}
 use Rattle.diagram.specs.Edge.{IsMultiple}
 use Rattle.diagram.specs.EdgeLaws.{multiple-valid, multiple-tensor}
-use Rattle.diagram.specs.EngineLaws.{refines-as, refines-stays, refines-count, refines-then, refines-full-more}
+use Rattle.diagram.specs.StoreLaws.{refines-as, refines-stays, refines-count, refines-then, refines-full-more}
 use Rattle.diagram.specs.Cache.{EdgeFits, HasEntry, RememberEnsures, keyStep}
 use Rattle.diagram.specs.CacheLaws.{key-step-kept, remembers-kept, remembers-more}
 use Rattle.diagram.specs.Operation.{MultipleOutcome, RefinesCached, OperationRequires, KeepEnsures, OutcomeFits}

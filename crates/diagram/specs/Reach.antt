@@ -17,16 +17,16 @@ pub record Covers {d : ℕ} (s : Set d) (A : Tensor d) : Type 0 where
   pub is : (x : Tensor d) → Reachable x A → member x s ≡ true
 
 -- C is got from T by fixing indices 0 to j-1
-pub data FixedBelow {d : ℕ} (T : Tensor d) : ℕ → Tensor d → Type 0 where
-  start : FixedBelow T 0 T
-  more : {j : ℕ} {C : Tensor d} → FixedBelow T j C → (b : Bool) → FixedBelow T (suc j) (fix j b C)
+pub data IsCofactorBelow {d : ℕ} (T : Tensor d) : ℕ → Tensor d → Type 0 where
+  start : IsCofactorBelow T 0 T
+  more : {j : ℕ} {C : Tensor d} → IsCofactorBelow T j C → (b : Bool) → IsCofactorBelow T (suc j) (fix j b C)
 
 -- x is the normal multiple of a nonconstant tensor got from T by fixing indices 0 to j-1, for a j below n
 pub record NormalCofactor {d : ℕ} (n : ℕ) (T x : Tensor d) : Type 0 where
   pub j : ℕ
   pub less : j < n
   pub tensor : Tensor d
-  pub got : FixedBelow T j tensor
+  pub got : IsCofactorBelow T j tensor
   pub index : ℕ
   pub depends : top tensor ≡ some index
   pub is : x ≡ normal tensor
@@ -37,7 +37,7 @@ CoversAnswer r = Covers (r .1) (r .0)
 
 -- "the normal multiples of the nonconstant tensors got from" those of the list "by fixing indices 0 to j-1", for j
 -- below n
-pub record KeptByCollect {d : ℕ} (n : ℕ) (filled : List (Tensor d)) (x : Tensor d) : Type 0 where
+pub record IsKept {d : ℕ} (n : ℕ) (filled : List (Tensor d)) (x : Tensor d) : Type 0 where
   pub register : Tensor d
   pub present : member register filled ≡ true
   pub cofactor : NormalCofactor n register x

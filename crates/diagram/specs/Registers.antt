@@ -11,10 +11,10 @@ use Rattle.diagram.specs.Tally.{Set}
 use Rattle.diagram.specs.Meaning.{edgeIn, Valid}
 use Rattle.diagram.specs.declared.node.Edge.{Edge}
 use Rattle.diagram.specs.declared.registers.Register.{Register}
-use Rattle.diagram.specs.declared.registers.Held.{Held}
-use Rattle.diagram.specs.declared.registers.Held.the-variants as Held
+use Rattle.diagram.specs.declared.registers.RegisterContent.{RegisterContent}
+use Rattle.diagram.specs.declared.registers.RegisterContent.the-variants as content
 
--- "sixteen registers, each empty or a tensor, all empty at first": an empty one has no edge that is looked at
+-- "sixteen registers, each empty or a tensor, all empty at first": the words of an empty one are 0
 abbrev pub emptyRegister : Register
 emptyRegister = record { filled = 0; edge = record { weight = 0; node = 0 } }
 
@@ -26,11 +26,11 @@ abbrev pub occupied : Register → Bool
 occupied r = eqb (r .filled) 1
 
 -- what is read from a register
-unfoldable pub heldBy : Register → Held
-heldBy r = cond (occupied r) (Held.Edge (r .edge)) Held.Empty
+unfoldable pub heldBy : Register → RegisterContent
+heldBy r = cond (occupied r) (content.Edge (r .edge)) content.Empty
 
 -- register i was read as h
-pub record GetEnsures (rs : List Register) (i : ℕ) (h : Held) : Type 0 where
+pub record GetEnsures (rs : List Register) (i : ℕ) (h : RegisterContent) : Type 0 where
   pub is : h ≡ heldBy (getD rs i emptyRegister)
 
 abbrev pub emptyRegisters : List Register

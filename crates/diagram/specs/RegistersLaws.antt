@@ -6,7 +6,7 @@ use mathlib.Core.Option.{none, some}
 use Prim.Native.Nat.{ℕ, zero, suc, _≤_, _<_}
 use native.Mathlib.Omega.{arith}
 use lib.ListN.{length, length-set, getD, set, replicate}
-use Rattle.diagram.specs.Tally.{Set, filled}
+use Rattle.diagram.specs.Tally.{Set, filledTensors}
 use Rattle.diagram.specs.Sets.{PrefixOf}
 use Rattle.diagram.specs.Meaning.{edgeIn, Valid}
 use Rattle.diagram.specs.MeaningLaws.{edge-kept, valid-more}
@@ -28,13 +28,14 @@ register-empty [] i b = λ e. refl
 register-empty (r ∷ rs) zero b = b .0
 register-empty (r ∷ rs) (suc i) b = register-empty rs i (b .1)
 
-pub filled-edges : {d : ℕ} (ts : Set d) (rs : List Register) → filled (holdsAll ts rs) ≡ tensorsOf ts (edgesOf rs)
-unfolding filled holdsAll holds edgesOf tensorsOf
+pub filled-edges : {d : ℕ} (ts : Set d) (rs : List Register) → filledTensors (holdsAll ts rs) ≡ tensorsOf ts
+    (edgesOf rs)
+unfolding filledTensors holdsAll holds edgesOf tensorsOf
 filled-edges ts [] = refl
 filled-edges ts (r ∷ rs) = go (occupied r) (filled-edges ts rs)
   where
-    go : (b : Bool) → filled (holdsAll ts rs) ≡ tensorsOf ts (edgesOf rs)
-        → filled (cond b (some (edgeIn ts (r .edge))) none ∷ holdsAll ts rs) ≡ tensorsOf ts
+    go : (b : Bool) → filledTensors (holdsAll ts rs) ≡ tensorsOf ts (edgesOf rs)
+        → filledTensors (cond b (some (edgeIn ts (r .edge))) none ∷ holdsAll ts rs) ≡ tensorsOf ts
         (cond b (r .edge ∷ edgesOf rs) (edgesOf rs))
     go true e = ap (λ l. edgeIn ts (r .edge) ∷ l) e
     go false e = e

@@ -5,7 +5,7 @@ use Prim.Native.Nat.{ℕ, _*_, _≤_, _<_}
 use lib.ListN.{length}
 use Rattle.diagram.specs.Insert as insert
 use Rattle.diagram.specs.Canonical.{Canonical}
-use Rattle.diagram.specs.Engine.{nodesOf, Sound}
+use Rattle.diagram.specs.Store.{nodesOf, Sound}
 use Rattle.diagram.specs.Cache.{NoneLater, AllEarlier}
 use Rattle.diagram.specs.Tensor.{indices}
 use Rattle.diagram.specs.declared.make.State.{State}
@@ -36,4 +36,4 @@ pub record RollbackEnsures (c' s s' : List ℕ) (st st' : State) : Type 0 where
 -- the table is made anew, or the store has no room for one
 pub data RebuiltOrNoRoom (s s' : List ℕ) (m k : ℕ) : Type 0 where
   built : insert.RebuildEnsures s s' m k → RebuiltOrNoRoom s s' m k
-  small : length s < 16 → s' ≡ s → RebuiltOrNoRoom s s' m k
+  no-room : length s < 16 → s' ≡ s → RebuiltOrNoRoom s s' m k

@@ -11,12 +11,13 @@ use Rattle.diagram.specs.Insert as insert
 use Rattle.diagram.specs.Make.{StateSound}
 use Rattle.diagram.specs.MakeLaws.{state-sound-of}
 use Rattle.diagram.specs.CanonicalLaws.{canonical-none}
-use Rattle.diagram.specs.Engine.{nodesOf, Sound}
+use Rattle.diagram.specs.Store.{nodesOf, Sound}
 use Rattle.diagram.specs.Cache.{NoneLater, AllZero, AllEarlier}
 use Rattle.diagram.specs.CacheLaws.{all-zero-earlier}
 use Rattle.diagram.specs.Operation.{RefinesCached}
 use Rattle.diagram.specs.Tensor.{indices}
-use Rattle.diagram.specs.Restore.{built, RebuiltOrNoRoom, small, RollbackEnsures, StartEnsures, RollbackRequires}
+use Rattle.diagram.specs.Restore.{built, RebuiltOrNoRoom, no-room, RollbackEnsures, StartEnsures}
+use Rattle.diagram.specs.Restore.{RollbackRequires}
 use Rattle.diagram.specs.declared.make.State.{State}
 use Rattle.diagram.specs.declared.join.Outcome.the-variants as outcome
 
@@ -42,19 +43,19 @@ rollback-table l p = l .ready p
 
 module _ {s s' : List ℕ} (st : State) (a : RebuiltOrNoRoom s s' (st .count) (st .buckets)) where
   rebuilt-long : length s' ≡ length s
-  rebuilt-long = elim a [ built r ↦ r .long | small h e ↦ ap length e ]
+  rebuilt-long = elim a [ built r ↦ r .long | no-room h e ↦ ap length e ]
 
   rebuilt-stored : 16 * st .count ≤ length s → st .count < 65536 → StateSound s' st
   rebuilt-stored p q = elim a [
     | built r ↦ state-sound-of (r .indexed)
-    | small h e ↦ record { room = rw e p; numbered = q; table = λ l. absurd (omega (arith, ap length e)) }
+    | no-room h e ↦ record { room = rw e p; numbered = q; table = λ l. absurd (omega (arith, ap length e)) }
   ]
 
   rebuilt-nodes : nodesOf s' st ≡ nodesOf s st
   unfolding nodesOf
   rebuilt-nodes = elim a [
     | built r ↦ ap (λ f. listed f (st .count)) (r .kept)
-    | small h e ↦ ap (λ z. listed (nodeAt z) (st .count)) e
+    | no-room h e ↦ ap (λ z. listed (nodeAt z) (st .count)) e
   ]
 
 pub start-ensures : {c s s' : List ℕ} → AllZero c → RebuiltOrNoRoom s s' 0 1

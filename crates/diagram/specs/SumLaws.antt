@@ -20,8 +20,8 @@ use Rattle.diagram.specs.TallyCasesLaws.{sum-zero-left, sum-zero-right, 
 use Rattle.diagram.specs.TallyShareLaws.{sum-ratio}
 use Rattle.diagram.specs.Meaning.{edgeIn, Valid}
 use Rattle.diagram.specs.CanonicalLaws.{edge-is-zero, edge-nonzero}
-use Rattle.diagram.specs.Engine.{nodesOf, setOf, tensorOf, Sound, Refines}
-use Rattle.diagram.specs.EngineLaws.{nodes-length, join-grows}
+use Rattle.diagram.specs.Store.{nodesOf, setOf, tensorOf, Sound, Refines}
+use Rattle.diagram.specs.StoreLaws.{nodes-length, join-grows}
 use Rattle.diagram.specs.Edge.{IsSum, IsCofactor}
 use Rattle.diagram.specs.EdgeLaws.{edge-sum-valid, edge-sum-tensor, multiple-one, multiple-two, free-below-level}
 use Rattle.diagram.specs.Cache.{KeyFits, opStep, keyStep}
@@ -29,9 +29,9 @@ use Rattle.diagram.specs.Operation.{OperationRequires, RefinesCached, lo
 use Rattle.diagram.specs.Operation.{HighRequires, edgesMeasure, PartsGrow}
 use Rattle.diagram.specs.OperationLaws.{cached-stays, cached-step, cached-scaled}
 use Rattle.diagram.specs.Join.{JoinRequires}
-use Rattle.diagram.specs.HalvesLaws.{measure-same, inside, tops}
-use Rattle.diagram.specs.HalvesLaws.{low-part-full, high-part-ready, high-part-measure, low-part-refines}
-use Rattle.diagram.specs.HalvesLaws.{high-part-full, high-ready, high-joinable, high-part-refines}
+use Rattle.diagram.specs.OperationHalvesLaws.{measure-same, inside, tops}
+use Rattle.diagram.specs.OperationHalvesLaws.{low-part-full, high-part-ready, high-part-measure, low-part-refines}
+use Rattle.diagram.specs.OperationHalvesLaws.{high-part-full, high-ready, high-joinable, high-part-refines}
 use Rattle.diagram.specs.Sum.{SumReduced}
 use Rattle.diagram.specs.declared.node.Edge.{Edge}
 use Rattle.diagram.specs.declared.make.State.{State}

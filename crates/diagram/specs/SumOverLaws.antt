@@ -11,10 +11,10 @@ use Rattle.diagram.specs.Tensor.{Tensor, weight, split, Bits, tail, cons
 use Rattle.diagram.specs.Tensor.{assign, members, power2}
 use Rattle.diagram.specs.TensorLaws.{scale-one, at-fix}
 use Rattle.diagram.specs.TestLaws.{branch-same, branch-ap}
-use Rattle.diagram.specs.RingLaws.{plus-medial, zero-plus, joined-plus, at-plus, fix-plus}
+use Rattle.diagram.specs.TensorRingLaws.{plus-medial, zero-plus, joined-plus, at-plus, fix-plus}
 use Rattle.diagram.specs.TopLaws.{free-below-plus}
 use Rattle.diagram.specs.Top.{FreeBelow}
-use Rattle.diagram.specs.BitsLaws.{assign-same, assign-at, assign-other, assign-twice}
+use Rattle.diagram.specs.TensorBitsLaws.{assign-same, assign-at, assign-other, assign-twice}
 use Rattle.diagram.specs.SumOver.{settings, sumOver, addOrKeep}
 
 from-level : {d : ℕ} (k : ℕ) (b : Bool) (l h : Tensor d) → l ≡ h → FreeBelow k l → FreeBelow (suc k) (addOrKeep b l h)

@@ -1,5 +1,5 @@
 -- The unique table: a hash table in the records. The head of bucket b is in record b, the next node of n's chain in n's
--- own record. A new node comes to the front of its chain, so numbers fall along a chain, and both fields are told by
+-- own record. A new node comes to the front of its chain, so numbers fall along a chain, and both fields are given by
 -- `last`: the last node of a bucket up to a number.
 use mathlib.Core.Path.{_≡_}
 use mathlib.Core.Bool.{cond}

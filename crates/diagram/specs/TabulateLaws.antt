@@ -24,9 +24,9 @@ cons-tail g = fun-ext go
     go zero = refl
     go (suc k) = refl
 
-pick-cons : (f : Bits → Weight) (b : Bool) (g : Bits) → branch b (f (cons false g)) (f (cons true g)) ≡ f (cons b g)
-pick-cons f true g = refl
-pick-cons f false g = refl
+branch-cons : (f : Bits → Weight) (b : Bool) (g : Bits) → branch b (f (cons false g)) (f (cons true g)) ≡ f (cons b g)
+branch-cons f true g = refl
+branch-cons f false g = refl
 
 -- its value at an assignment, where f looks at no other index ..
 pub at-tabulate : (d : ℕ) (f : Bits → Weight) → Sees d f → (g : Bits) → at (tabulate d f) g ≡ f g
@@ -35,7 +35,7 @@ at-tabulate zero f s g = s _ g (λ k p. absurd (not-suc-le-zero p))
 at-tabulate (suc d) f s g =
     ap₂ (branch (g 0)) (at-tabulate d _ (sees-cons d false f s) (tail g))
     (at-tabulate d _ (sees-cons d true f s) (tail g))
-    ∙ pick-cons f (g 0) (tail g) ∙ ap f (cons-tail g)
+    ∙ branch-cons f (g 0) (tail g) ∙ ap f (cons-tail g)
 
 pub bits-none : (k : ℕ) → bits 0 k ≡ false
 unfolding bits
@@ -50,4 +50,4 @@ tabulate-value (suc d) f v p =
     let half : v / 2 < 2 ^ d = omega (arith, power-suc d) in
     ap₂ (branch (bits v 0)) (tabulate-value d (λ g. f (cons false g)) (v / 2) half)
     (tabulate-value d (λ g. f (cons true g)) (v / 2) half)
-    ∙ pick-cons f (bits v 0) (bits (v / 2)) ∙ ap f (cons-tail (bits v))
+    ∙ branch-cons f (bits v 0) (bits (v / 2)) ∙ ap f (cons-tail (bits v))

@@ -139,7 +139,7 @@ build {d} = onTop (return (constant d 0W)) buildBody
 
 -- "collect: the set keeps exactly the normal multiples of the nonconstant tensors got from filled registers
 --  by fixing indices 0 to j-1, for j from 0 to 23." It is a filter of the set: all of them are in it before
---  (TallyCoverLaws, collect-exactly).
+--  (`collect-exactly`, TallyCollectLaws).
 
 -- each tensor of a list with index k fixed to 0, and fixed to 1
 unfoldable pub fixBoth : {d : ℕ} → ℕ → List (Tensor d) → List (Tensor d)
@@ -147,9 +147,9 @@ fixBoth k [] = []
 fixBoth k (T ∷ l) = fix k false T ∷ fix k true T ∷ fixBoth k l
 
 -- "the tensors got from" those of a list "by fixing indices 0 to j-1"
-unfoldable pub fixed : {d : ℕ} → ℕ → List (Tensor d) → List (Tensor d)
-fixed zero l = l
-fixed (suc j) l = fixBoth j (fixed j l)
+unfoldable pub cofactorsBelow : {d : ℕ} → ℕ → List (Tensor d) → List (Tensor d)
+cofactorsBelow zero l = l
+cofactorsBelow (suc j) l = fixBoth j (cofactorsBelow j l)
 
 -- "the normal multiples of the nonconstant" ones of a list
 unfoldable pub normalAt : {d : ℕ} → Option ℕ → Tensor d → List (Tensor d)
@@ -163,19 +163,19 @@ normals (T ∷ l) = normalAt (top T) T ++ normals l
 -- "for j from 0 to" n - 1
 unfoldable pub keeps : {d : ℕ} → ℕ → List (Tensor d) → List (Tensor d)
 keeps zero l = []
-keeps (suc n) l = keeps n l ++ normals (fixed n l)
+keeps (suc n) l = keeps n l ++ normals (cofactorsBelow n l)
 
 -- those of s that are in l
-unfoldable pub within : {d : ℕ} → List (Tensor d) → Set d → Set d
-within l [] = []
-within l (x ∷ s) = cond (member x l) (x ∷ within l s) (within l s)
+unfoldable pub keepOnly : {d : ℕ} → List (Tensor d) → Set d → Set d
+keepOnly l [] = []
+keepOnly l (x ∷ s) = cond (member x l) (x ∷ keepOnly l s) (keepOnly l s)
 
--- `filled` are the tensors of the filled registers
+-- `held` are the tensors of the filled registers
 unfoldable pub collect : {d : ℕ} → List (Tensor d) → Set d → Set d
-collect {d} filled s = within (keeps d filled) s
+collect {d} held s = keepOnly (keeps d held) s
 
 -- the tensors of the filled registers, from what each register holds
-unfoldable pub filled : {d : ℕ} → List (Option (Tensor d)) → List (Tensor d)
-filled [] = []
-filled (none ∷ l) = filled l
-filled (some T ∷ l) = T ∷ filled l
+unfoldable pub filledTensors : {d : ℕ} → List (Option (Tensor d)) → List (Tensor d)
+filledTensors [] = []
+filledTensors (none ∷ l) = filledTensors l
+filledTensors (some T ∷ l) = T ∷ filledTensors l

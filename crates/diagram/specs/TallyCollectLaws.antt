@@ -16,11 +16,11 @@ use Rattle.diagram.specs.TensorLaws.{fix-scale, same-eq, eq-same, same-r
 use Rattle.diagram.specs.TopLaws.{free-below-fix, free-below-top, top-free-below, free-below-less, fix-free-below}
 use Rattle.diagram.specs.TopLaws.{top-is, top-inside}
 use Rattle.diagram.specs.Top.{FreeBelow, TopAtLeast}
-use Rattle.diagram.specs.ScaleLaws.{unscale, first-nonzero, top-nonzero, top-scale, normal-scale}
+use Rattle.diagram.specs.TensorScaleLaws.{unscale, first-nonzero, top-nonzero, top-scale, normal-scale}
 use Rattle.diagram.specs.TestLaws.{cases, or-cases, or-left, or-right, or-assoc}
-use Rattle.diagram.specs.Tally.{Set, member, fixBoth, fixed, normalAt, normals, keeps, within, collect}
-use Rattle.diagram.specs.Reach.{itself, more, Reachable, Covers, NormalCofactor, part, start, FixedBelow}
-use Rattle.diagram.specs.Reach.{KeptByCollect}
+use Rattle.diagram.specs.Tally.{Set, member, fixBoth, cofactorsBelow, normalAt, normals, keeps, keepOnly, collect}
+use Rattle.diagram.specs.Reach.{itself, more, Reachable, Covers, NormalCofactor, part, start, IsCofactorBelow}
+use Rattle.diagram.specs.Reach.{IsKept}
 
 -- a multiple reaches the same
 pub reachable-scale : {d : ℕ} (c : Weight) (x T : Tensor d) → Nonzero c → Reachable x T → Reachable x (scale c T)
@@ -38,9 +38,9 @@ reachable-trans x y T (itself k e q) r =
     (unfold normal in rw q at r)
 reachable-trans x y T (part k e b p) r = part k e b (reachable-trans x y (fix k b T) p r)
 
-pub fixed-below-from : {d : ℕ} (T : Tensor d) (j : ℕ) (C : Tensor d) → FixedBelow T j C → FreeBelow j C
-fixed-below-from T j C start = tt
-fixed-below-from T j C (more {j = i} {C = B} g b) = free-below-fix i b B (fixed-below-from T i B g)
+pub cofactor-below-from : {d : ℕ} (T : Tensor d) (j : ℕ) (C : Tensor d) → IsCofactorBelow T j C → FreeBelow j C
+cofactor-below-from T j C start = tt
+cofactor-below-from T j C (more {j = i} {C = B} g b) = free-below-fix i b B (cofactor-below-from T i B g)
 
 -- fixing the lowest index that may matter
 pub reachable-fix : {d : ℕ} (j : ℕ) (b : Bool) (x T : Tensor d) → FreeBelow j T → Reachable x (fix j b T)
@@ -55,27 +55,28 @@ reachable-fix j b x T f r = go (top T) refl (top-free-below j T f)
         r)
 
 -- what is got reaches no more ..
-pub fixed-below-reachable : {d : ℕ} (x T : Tensor d) (j : ℕ) (C : Tensor d) → FixedBelow T j C → Reachable x C
+pub cofactor-below-reachable : {d : ℕ} (x T : Tensor d) (j : ℕ) (C : Tensor d) → IsCofactorBelow T j C → Reachable x C
     → Reachable x T
-fixed-below-reachable x T j C start r = r
-fixed-below-reachable x T j C (more {j = i} {C = B} g b) r =
-    fixed-below-reachable x T i B g (reachable-fix i b x B (fixed-below-from T i B g) r)
+cofactor-below-reachable x T j C start r = r
+cofactor-below-reachable x T j C (more {j = i} {C = B} g b) r =
+    cofactor-below-reachable x T i B g (reachable-fix i b x B (cofactor-below-from T i B g) r)
 
 -- indices below the top can be fixed to anything
-got-up : {d : ℕ} (n j k : ℕ) (T C : Tensor d) → n + j ≡ k → FreeBelow k C → FixedBelow T j C → FixedBelow T k C
+got-up : {d : ℕ} (n j k : ℕ) (T C : Tensor d) → n + j ≡ k → FreeBelow k C → IsCofactorBelow T j C → IsCofactorBelow T k
+    C
 got-up zero j k T C p f g = let q : j ≡ k = omega arith in rw q at g
 got-up (suc n) j k T C p f g =
     got-up n (suc j) k T C (omega arith) f (rw (fix-free-below j false C (free-below-less (suc j) k C (omega arith) f))
     at (more g false))
 
 -- .. and all that is reached is the normal multiple of what is got
-cofactor-from : {d : ℕ} (x T : Tensor d) (j : ℕ) (C : Tensor d) → FixedBelow T j C → Reachable x C
+cofactor-from : {d : ℕ} (x T : Tensor d) (j : ℕ) (C : Tensor d) → IsCofactorBelow T j C → Reachable x C
     → NormalCofactor d T x
 cofactor-from {d} x T j C g (itself k e q) =
-    let p : j ≤ k = rw e at (top-free-below j C (fixed-below-from T j C g)) in
+    let p : j ≤ k = rw e at (top-free-below j C (cofactor-below-from T j C g)) in
     record { j = j; less = omega (arith, top-inside k C e); tensor = C; got = g; index = k; depends = e; is = q }
 cofactor-from x T j C g (part k e b r) =
-    let p : j ≤ k = rw e at (top-free-below j C (fixed-below-from T j C g)) in
+    let p : j ≤ k = rw e at (top-free-below j C (cofactor-below-from T j C g)) in
     cofactor-from x T (suc k) (fix k b C) (more (got-up (k - j) j k T C (omega arith) (top-is k C e) g) b) r
 
 pub reachable-cofactor : {d : ℕ} (x T : Tensor d) → Reachable x T → NormalCofactor d T x
@@ -83,7 +84,7 @@ reachable-cofactor x T r = cofactor-from x T 0 T start r
 
 pub cofactor-reachable : {d : ℕ} (n : ℕ) (x T : Tensor d) → NormalCofactor n T x → Reachable x T
 cofactor-reachable n x T c =
-    fixed-below-reachable x T (c .j) (c .tensor) (c .got) (itself (c .index) (c .depends) (c .is))
+    cofactor-below-reachable x T (c .j) (c .tensor) (c .got) (itself (c .index) (c .depends) (c .is))
 
 -- `Covers` in document 01's words: the set has the normal multiple of each nonconstant tensor got from A
 -- "by fixing indices 0 to j-1"
@@ -128,20 +129,21 @@ module _ {d : ℕ} where
           or-right (same (fix k true B) (fix k false T)) _ (or-left (same (fix k true B) (fix k true T)) _
           (eq-same (ap (fix k true) q)))
 
-  fixed-got : (j : ℕ) (l : List (Tensor d)) (C : Tensor d) → member C (fixed j l) ≡ true
-      → (T : Tensor d) × (member T l ≡ true) × FixedBelow T j C
-  unfolding fixed
-  fixed-got zero l C e = (C, e, start)
-  fixed-got (suc j) l C e =
-      let r = in-both j (fixed j l) C e in
-      let g = fixed-got j l (r .0) (r .1) in
+  cofactors-got : (j : ℕ) (l : List (Tensor d)) (C : Tensor d) → member C (cofactorsBelow j l) ≡ true
+      → (T : Tensor d) × (member T l ≡ true) × IsCofactorBelow T j C
+  unfolding cofactorsBelow
+  cofactors-got zero l C e = (C, e, start)
+  cofactors-got (suc j) l C e =
+      let r = in-both j (cofactorsBelow j l) C e in
+      let g = cofactors-got j l (r .0) (r .1) in
       (g .0, g .1, rw (r .2 .1) at (more (g .2) (r .2 .0)))
 
-  got-fixed : (l : List (Tensor d)) (T : Tensor d) → member T l ≡ true → (j : ℕ) (C : Tensor d) → FixedBelow T j C
-      → member C (fixed j l) ≡ true
-  unfolding fixed
-  got-fixed l T e j C start = e
-  got-fixed l T e j C (more {j = i} {C = B} g b) = both-in i (fixed i l) B b (got-fixed l T e i B g)
+  got-cofactors : (l : List (Tensor d)) (T : Tensor d) → member T l ≡ true → (j : ℕ) (C : Tensor d) → IsCofactorBelow T
+      j C
+      → member C (cofactorsBelow j l) ≡ true
+  unfolding cofactorsBelow
+  got-cofactors l T e j C start = e
+  got-cofactors l T e j C (more {j = i} {C = B} g b) = both-in i (cofactorsBelow i l) B b (got-cofactors l T e i B g)
 
   abbrev NormalOf : List (Tensor d) → Tensor d → Type 0
   NormalOf l x = (C : Tensor d) × (member C l ≡ true) × ((k : ℕ) × (top C ≡ some k) × (x ≡ normal C))
@@ -184,24 +186,24 @@ module _ {d : ℕ} where
         is = c .is;
       }
 
-  pub keeps-kept : (n : ℕ) (l : List (Tensor d)) (x : Tensor d) → member x (keeps n l) ≡ true → KeptByCollect n l x
+  pub keeps-kept : (n : ℕ) (l : List (Tensor d)) (x : Tensor d) → member x (keeps n l) ≡ true → IsKept n l x
   unfolding keeps
   keeps-kept zero l x e = absurd (false≢true (unfold member in e))
   keeps-kept (suc n) l x e =
-      or-cases (member x (keeps n l)) _ (sym (member-or x (keeps n l) (normals (fixed n l))) ∙ e)
+      or-cases (member x (keeps n l)) _ (sym (member-or x (keeps n l) (normals (cofactorsBelow n l))) ∙ e)
       (λ e. later (keeps-kept n l x e)) now
     where
-      later : KeptByCollect n l x → KeptByCollect (suc n) l x
+      later : IsKept n l x → IsKept (suc n) l x
       later k = record {
         register = k .register;
         present = k .present;
         cofactor = cofactor-more n (suc n) _ _ (k .cofactor) (omega (arith, k .cofactor .less));
       }
 
-      now : member x (normals (fixed n l)) ≡ true → KeptByCollect (suc n) l x
+      now : member x (normals (cofactorsBelow n l)) ≡ true → IsKept (suc n) l x
       now e =
-          let r = in-normals (fixed n l) x e in
-          let g = fixed-got n l (r .0) (r .1) in
+          let r = in-normals (cofactorsBelow n l) x e in
+          let g = cofactors-got n l (r .0) (r .1) in
           record {
             register = g .0;
             present = g .1;
@@ -216,7 +218,7 @@ module _ {d : ℕ} where
             };
           }
 
-  pub kept-keeps : (n : ℕ) (l : List (Tensor d)) (x : Tensor d) → KeptByCollect n l x → member x (keeps n l) ≡ true
+  pub kept-keeps : (n : ℕ) (l : List (Tensor d)) (x : Tensor d) → IsKept n l x → member x (keeps n l) ≡ true
   unfolding keeps
   kept-keeps zero l x k = absurd (omega (arith, k .cofactor .less))
   kept-keeps (suc n) l x k =
@@ -226,15 +228,16 @@ module _ {d : ℕ} where
       c : NormalCofactor (suc n) (k .register) x
       c = k .cofactor
 
-      now : eqb (c .j) n ≡ true → (member x (keeps n l) || member x (normals (fixed n l))) ≡ true
+      now : eqb (c .j) n ≡ true → (member x (keeps n l) || member x (normals (cofactorsBelow n l))) ≡ true
       now q =
-          let got : FixedBelow (k .register) n (c .tensor) = subst (λ i. FixedBelow (k .register) i (c .tensor))
+          let got : IsCofactorBelow (k .register) n (c .tensor) = subst
+          (λ i. IsCofactorBelow (k .register) i (c .tensor))
           (eqb-true (c .j) n q) (c .got) in
-          let here = got-fixed l (k .register) (k .present) n (c .tensor) got in
-          or-right (member x (keeps n l)) _ (rw (c .is) (normals-in (fixed n l) (c .tensor) (c .index) here
+          let here = got-cofactors l (k .register) (k .present) n (c .tensor) got in
+          or-right (member x (keeps n l)) _ (rw (c .is) (normals-in (cofactorsBelow n l) (c .tensor) (c .index) here
           (c .depends)))
 
-      earlier : (c .j ≡ n → ⊥) → KeptByCollect n l x
+      earlier : (c .j ≡ n → ⊥) → IsKept n l x
       earlier ne = record {
         register = k .register;
         present = k .present;
@@ -254,28 +257,30 @@ module _ {d : ℕ} where
 
   -- the filter
 
-  within-member : (l : List (Tensor d)) (s : Set d) (x : Tensor d) → member x (within l s) ≡ (member x l && member x s)
-  unfolding member within
-  within-member l [] x = none (member x l)
+  keep-only-member : (l : List (Tensor d)) (s : Set d) (x : Tensor d) → member x (keepOnly l s)
+      ≡ (member x l && member x s)
+  unfolding member keepOnly
+  keep-only-member l [] x = none (member x l)
     where
       none : (b : Bool) → false ≡ (b && false)
       none true = refl
       none false = refl
-  within-member l (y ∷ s) x = go (member y l) refl (same x y) refl (within-member l s x)
+  keep-only-member l (y ∷ s) x = go (member y l) refl (same x y) refl (keep-only-member l s x)
     where
-      go : (b : Bool) → member y l ≡ b → (c : Bool) → same x y ≡ c → member x (within l s) ≡ (member x l && member x s)
-          → member x (cond b (y ∷ within l s) (within l s)) ≡ (member x l && (c || member x s))
+      go : (b : Bool) → member y l ≡ b → (c : Bool) → same x y ≡ c → member x (keepOnly l s)
+          ≡ (member x l && member x s)
+          → member x (cond b (y ∷ keepOnly l s) (keepOnly l s)) ≡ (member x l && (c || member x s))
       go true p true q ih = rw q (sym (rw (same-eq x y q, p) refl))
       go true p false q ih = rw q ih
       go false p true q ih = ih ∙ (rw (same-eq x y q, p) refl)
       go false p false q ih = ih
 
-  within-sublist : (l : List (Tensor d)) (s : Set d) → Sublistᴰ (within l s) s
-  unfolding within
-  within-sublist l [] = Sublistᴰ·slnil
-  within-sublist l (x ∷ s) = one (member x l) (within-sublist l s)
+  keep-only-sublist : (l : List (Tensor d)) (s : Set d) → Sublistᴰ (keepOnly l s) s
+  unfolding keepOnly
+  keep-only-sublist l [] = Sublistᴰ·slnil
+  keep-only-sublist l (x ∷ s) = one (member x l) (keep-only-sublist l s)
     where
-      one : (b : Bool) → Sublistᴰ (within l s) s → Sublistᴰ (cond b (x ∷ within l s) (within l s)) (x ∷ s)
+      one : (b : Bool) → Sublistᴰ (keepOnly l s) s → Sublistᴰ (cond b (x ∷ keepOnly l s) (keepOnly l s)) (x ∷ s)
       one true h = Sublistᴰ·cons-cons refl h
       one false h = Sublistᴰ·cons h
 
@@ -283,12 +288,12 @@ module _ {d : ℕ} where
   pub collect-member : (filled : List (Tensor d)) (s : Set d) (x : Tensor d)
       → member x (collect filled s) ≡ (member x (keeps d filled) && member x s)
   unfolding collect
-  collect-member filled s x = within-member (keeps d filled) s x
+  collect-member filled s x = keep-only-member (keeps d filled) s x
 
   -- "a collection closes the gaps and preserves order"
   pub collect-sublist : (filled : List (Tensor d)) (s : Set d) → Sublistᴰ (collect filled s) s
   unfolding collect
-  collect-sublist filled s = within-sublist (keeps d filled) s
+  collect-sublist filled s = keep-only-sublist (keeps d filled) s
 
   -- where the set has all that the filled registers reach, "the set keeps exactly" what the document names
   pub collect-exactly : (filled : List (Tensor d)) (s : Set d) → ((T : Tensor d) → member T filled ≡ true → Covers s T)

@@ -8,16 +8,17 @@ use lib.Dec.{leb}
 use borrow.Author.Tests.{leb-true, leb-false}
 use Rattle.field.specs.Weight.{Weight, 0W, timesW, Nonzero}
 use Rattle.field.specs.InverseLaws.{times-nonzero}
-use Rattle.diagram.specs.Tensor.{Tensor, Bits, constant, isZero, scale, times, top, lower, top2, fix, assign}
+use Rattle.diagram.specs.Tensor.{Tensor, Bits, constant, isZero, scale, times, top, lowerTop, top2, fix, assign}
 use Rattle.diagram.specs.Tensor.{without, members, power2}
 use Rattle.diagram.specs.TensorLaws.{isZero-eq, scale-zero, scale-comm}
-use Rattle.diagram.specs.RingLaws.{zero-times, times-zero, fix-times, scale-times, times-constant, times-comm}
+use Rattle.diagram.specs.TensorRingLaws.{zero-times, times-zero, fix-times, scale-times, times-constant}
+use Rattle.diagram.specs.TensorRingLaws.{times-comm}
 use Rattle.diagram.specs.TopLaws.{free-below-fix, free-below-times, lower-top, top-none, onTop2-step, induction2}
 use Rattle.diagram.specs.Descend.{Local2}
 use Rattle.diagram.specs.Top.{FreeBelow}
 use Rattle.diagram.specs.SumOverLaws.{sumOver-zero, sumOver-constant, sumOver-in, sumOver-out, free-below-over}
 use Rattle.diagram.specs.SumOver.{sumOver}
-use Rattle.diagram.specs.ScaleLaws.{isZero-scale, top2-scale}
+use Rattle.diagram.specs.TensorScaleLaws.{isZero-scale, top2-scale}
 use Rattle.diagram.specs.TestLaws.{no-some, or-comm}
 use Rattle.diagram.specs.Tally.{Set, Contraction, return, join, sum, contCases, contBody, cont, Binary, _>>=_}
 use Rattle.diagram.specs.Tally.{both}
@@ -27,7 +28,7 @@ use Rattle.diagram.specs.TallyStepLaws.{writes-grows}
 use Rattle.diagram.specs.TallyStep.{Writes, ScaledStep}
 use Rattle.diagram.specs.TallyStepLaws.{scaled-answer, scaled-both, scaled-join}
 use Rattle.diagram.specs.TallySumLaws.{both-local, sum-writes, sum-scaled}
-use Rattle.diagram.specs.BitsLaws.{assign-same}
+use Rattle.diagram.specs.TensorBitsLaws.{assign-same}
 
 -- one step
 
@@ -64,7 +65,7 @@ pub two-constants : {d : ℕ} (A B : Tensor d) → top2 A B ≡ none
 unfolding top2
 two-constants {d} A B e = go (top A) refl (top B) refl e
   where
-    go : (a : Option ℕ) → top A ≡ a → (b : Option ℕ) → top B ≡ b → lower a b ≡ none
+    go : (a : Option ℕ) → top A ≡ a → (b : Option ℕ) → top B ≡ b → lowerTop a b ≡ none
         → ((a : Weight) × (A ≡ constant d a)) × ((b : Weight) × (B ≡ constant d b))
     go none p none q e = (top-none A p, top-none B q)
     go none p (some j) q e = no-some e
@@ -77,10 +78,10 @@ product-constant {d} A B e =
     (timesW (c .0 .0) (c .1 .0), ap₂ times (c .0 .1) (c .1 .1) ∙ times-constant d (c .0 .0) (c .1 .0))
 
 -- the answer at k, from the answers of the two parts
-meet : {d : ℕ} (k : ℕ) (S : Bits) (T : Tensor d) → k < d → FreeBelow k T
+combine-parts : {d : ℕ} (k : ℕ) (S : Bits) (T : Tensor d) → k < d → FreeBelow k T
     → Writes (sumOver S T) (cond (S k) sum (join k) (sumOver (assign k false S) (fix k false T))
     (sumOver (assign k false S) (fix k true T)))
-meet k S T p f = go (S k) refl
+combine-parts k S T p f = go (S k) refl
   where
     from : (x : Bool) → FreeBelow (suc k) (sumOver S (fix k x T))
     from x = free-below-over (suc k) S (fix k x T) (free-below-fix k x T f)
@@ -106,7 +107,7 @@ cont-cases-writes {d} false (some k) A B S p q h =
     let o = lower-top A B k q in
     writes-both (λ A B. cont A B (without k S)) k A B (cond (S k) sum (join k)) (h k false refl (without k S))
     (h k true refl (without k S))
-    (rw (← fix-times k false A B, ← fix-times k true A B) (meet k S (times A B) (o .inside)
+    (rw (← fix-times k false A B, ← fix-times k true A B) (combine-parts k S (times A B) (o .inside)
     (free-below-times k A B (o .left) (o .right))))
 
 pub cont-writes : {d : ℕ} (A B : Tensor d) (S : Bits) → Writes (sumOver S (times A B)) (cont A B S)
@@ -122,10 +123,10 @@ cont-grows A B S s = writes-grows (cont-writes A B S) s
 
 -- scaling
 
-pub meet-scaled : {d : ℕ} (c : Weight) → Nonzero c → (k : ℕ) (b : Bool) (L H : Tensor d)
+pub combine-scaled : {d : ℕ} (c : Weight) → Nonzero c → (k : ℕ) (b : Bool) (L H : Tensor d)
     → ScaledStep c (cond b sum (join k) L H) (cond b sum (join k) (scale c L) (scale c H))
-meet-scaled c n k true L H = sum-scaled c n L H
-meet-scaled c n k false L H = scaled-join c k L H n
+combine-scaled c n k true L H = sum-scaled c n L H
+combine-scaled c n k false L H = scaled-join c k L H n
 
 cont-cases-scaled : {d : ℕ} (a b : Weight) → Nonzero a → Nonzero b
     → (z : Bool) (o : Option ℕ) (A B : Tensor d) (S : Bits)
@@ -141,8 +142,8 @@ cont-cases-scaled {d} a b n m false none A B S h =
     ∙ scale-comm (power2 (members d S)) (timesW a b) (times A B))
 cont-cases-scaled {d} a b n m false (some k) A B S h =
     scaled-both a b (λ A B. cont A B (without k S)) (λ A B. cont A B (without k S)) k A B (cond (S k) sum (join k))
-    (cond (S k) sum (join k))
-    (λ x. h k x refl (without k S)) (λ L H. meet-scaled (timesW a b) (times-nonzero n m) k (S k) L H)
+    (cond (S k) sum (join k)) (λ x. h k x refl (without k S))
+    (λ L H. combine-scaled (timesW a b) (times-nonzero n m) k (S k) L H)
 
 pub cont-scaled : {d : ℕ} (a b : Weight) → Nonzero a → Nonzero b → (A B : Tensor d) (S : Bits)
     → ScaledStep (timesW a b) (cont A B S) (cont (scale a A) (scale b B) S)
@@ -158,7 +159,7 @@ cont-scaled a b n m =
     )
     (cont-cases-scaled a b n m (isZero A || isZero B) (top2 A B) A B S h))
 
-lower-comm : (a b : Option ℕ) → lower a b ≡ lower b a
+lower-comm : (a b : Option ℕ) → lowerTop a b ≡ lowerTop b a
 lower-comm none none = refl
 lower-comm none (some j) = refl
 lower-comm (some i) none = refl

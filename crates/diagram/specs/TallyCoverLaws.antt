@@ -12,13 +12,13 @@ use Rattle.field.specs.RingLaws.{sameW-eq}
 use Rattle.diagram.specs.Tensor.{Tensor, Bits, same, constant, isZero, scale, plus, top, top2, fix, joined}
 use Rattle.diagram.specs.Tensor.{normal, multiple, without}
 use Rattle.diagram.specs.TensorLaws.{scale-one, zero-scale, scale-constant}
-use Rattle.diagram.specs.RingLaws.{plus-constant}
+use Rattle.diagram.specs.TensorRingLaws.{plus-constant}
 use Rattle.diagram.specs.TopLaws.{free-below-less, free-below-fix, free-below-plus, free-below-times}
 use Rattle.diagram.specs.TopLaws.{top-constant, top-joined, top-is, top-inside, top-depends}
 use Rattle.diagram.specs.Top.{FreeBelow, IsLowerTop, Free}
 use Rattle.diagram.specs.TopLaws.{lower-top, induction, induction2}
-use Rattle.diagram.specs.FreeLaws.{free-fix, joined-low, joined-high}
-use Rattle.diagram.specs.ScaleLaws.{multiple-eq}
+use Rattle.diagram.specs.TopFreeLaws.{free-fix, joined-low, joined-high}
+use Rattle.diagram.specs.TensorScaleLaws.{multiple-eq}
 use Rattle.diagram.specs.TestLaws.{some-same, no-some, cases}
 use Rattle.diagram.specs.Tally.{Set, Step, member, put, joinCases, join, sum, cont, low, build}
 use Rattle.diagram.specs.Sets.{PrefixOf}

@@ -17,8 +17,8 @@ use Rattle.diagram.specs.TopLaws.{lower-top, top-inside, induction, indu
 use Rattle.diagram.specs.Tally.{Set, Step, Binary, Unary, return, _>>=_, member, put, joinCases, join, both}
 use Rattle.diagram.specs.Tally.{sumCases, sumBody, sum, contCases}
 use Rattle.diagram.specs.Tally.{contBody, cont, halves, lowAt, lowCases, lowBody, low, buildCases, buildBody}
-use Rattle.diagram.specs.Tally.{build, keeps, within, collect}
-use Rattle.diagram.specs.BitsLaws.{members-none}
+use Rattle.diagram.specs.Tally.{build, keeps, keepOnly, collect}
+use Rattle.diagram.specs.TensorBitsLaws.{members-none}
 use Rattle.diagram.specs.TallySumLaws.{sum-step}
 use Rattle.diagram.specs.TallyContLaws.{cont-step}
 use Rattle.diagram.specs.TallyLowLaws.{low-step}
@@ -41,10 +41,10 @@ module _ (m : ℕ) where
   grow-member x [] = refl
   grow-member x (y ∷ s) = ap₂ _||_ (grow-same m x y) (grow-member x s)
 
-  grow-append : {d : ℕ} (s t : Set d) → growAll m (s ++ t) ≡ growAll m s ++ growAll m t
+  tensors-append : {d : ℕ} (s t : Set d) → growAll m (s ++ t) ≡ growAll m s ++ growAll m t
   unfolding growAll
-  grow-append [] t = refl
-  grow-append (x ∷ s) t = ap (λ r. grow m x ∷ r) (grow-append s t)
+  tensors-append [] t = refl
+  tensors-append (x ∷ s) t = ap (λ r. grow m x ∷ r) (tensors-append s t)
 
   grow-put : {d : ℕ} (x : Tensor d) (s : Set d) → put (grow m x) (growAll m s) ≡ growAll m (put x s)
   unfolding put growAll
@@ -52,7 +52,7 @@ module _ (m : ℕ) where
     where
       go : (b : Bool) → cond b (growAll m s) (growAll m s ++ (grow m x ∷ [])) ≡ growAll m (cond b s (s ++ (x ∷ [])))
       go true = refl
-      go false = sym (grow-append s (x ∷ []))
+      go false = sym (tensors-append s (x ∷ []))
 
   pub grows-return : {d : ℕ} (T : Tensor d) → StepGrows m (return T) (return (grow m T))
   unfolding return
@@ -254,11 +254,12 @@ module _ (m : ℕ) where
           reachable-keeps (growAll m l) (grow m x) (grow m (r .0)) (grow-member m (r .0) l ∙ r .1)
           (reached-grow x (r .0) (r .2))
 
-  within-grow : {d : ℕ} (l s : Set d)
-      → within (keeps (deeper d m) (growAll m l)) (growAll m s) ≡ growAll m (within (keeps d l) s)
-  unfolding within growAll
-  within-grow l [] = refl
-  within-grow {d} l (x ∷ s) = rw (keeps-grow l x, within-grow l s) (one (member x (keeps d l)) (within (keeps d l) s))
+  keep-only-grow : {d : ℕ} (l s : Set d)
+      → keepOnly (keeps (deeper d m) (growAll m l)) (growAll m s) ≡ growAll m (keepOnly (keeps d l) s)
+  unfolding keepOnly growAll
+  keep-only-grow l [] = refl
+  keep-only-grow {d} l (x ∷ s) = rw (keeps-grow l x, keep-only-grow l s)
+      (one (member x (keeps d l)) (keepOnly (keeps d l) s))
     where
       one : (b : Bool) (t : Set d) → cond b (grow m x ∷ growAll m t) (growAll m t) ≡ growAll m (cond b (x ∷ t) t)
       one true t = refl
@@ -266,4 +267,4 @@ module _ (m : ℕ) where
 
   pub collect-grow : {d : ℕ} (l s : Set d) → collect (growAll m l) (growAll m s) ≡ growAll m (collect l s)
   unfolding collect
-  collect-grow l s = within-grow l s
+  collect-grow l s = keep-only-grow l s

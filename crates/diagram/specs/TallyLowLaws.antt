@@ -16,8 +16,8 @@ use Rattle.diagram.specs.TopLaws.{free-below-fix, free-below-less, free-
 use Rattle.diagram.specs.TopLaws.{free-below-top, fix-free-below, top-is, top-inside, top-depends}
 use Rattle.diagram.specs.Top.{FreeBelow, Free}
 use Rattle.diagram.specs.TopLaws.{onTop-step, induction}
-use Rattle.diagram.specs.FreeLaws.{free-fix}
-use Rattle.diagram.specs.ScaleLaws.{top-scale}
+use Rattle.diagram.specs.TopFreeLaws.{free-fix}
+use Rattle.diagram.specs.TensorScaleLaws.{top-scale}
 use Rattle.diagram.specs.Tally.{Set, Unary, Binary, return, join, halves, lowAt, lowCases, lowBody, low}
 use Rattle.diagram.specs.TallyStepLaws.{writes-return, writes-as, writes-join, writes-answer, scaled-return}
 use Rattle.diagram.specs.TallyStep.{Writes, ScaledStep}
@@ -45,9 +45,9 @@ unfolding low lowBody
 low-step {d} k A =
     onTop-step (return (constant d 0W)) (lowBody k) (λ rec rec' A h. low-cases-local k (top A) rec rec' A h) A
 
-pick-bool : (b : Bool) → branch b false true ≡ b
-pick-bool true = refl
-pick-bool false = refl
+branch-bool : (b : Bool) → branch b false true ≡ b
+branch-bool true = refl
+branch-bool false = refl
 
 -- the renaming: at each assignment, the value where index k has what index k - 1 has
 pub rename-down-at : {d : ℕ} (k : ℕ) (A : Tensor d) (f : Bits) → k - 1 < d
@@ -57,7 +57,7 @@ rename-down-at k A f p =
     at-joined (k - 1) _ _ f p
     ∙ rw (at-fix, at-fix)
     (sym (branch-ap (λ b. at A (assign k b f)) (f (k - 1)) false true)
-    ∙ ap (λ b. at A (assign k b f)) (pick-bool (f (k - 1))))
+    ∙ ap (λ b. at A (assign k b f)) (branch-bool (f (k - 1))))
 
 lowered-fix : {d : ℕ} (t k : ℕ) (b : Bool) (A : Tensor d) → t < k - 1
     → fix t b (renameDown k A) ≡ renameDown k (fix t b A)

@@ -9,7 +9,7 @@ use Rattle.diagram.specs.TensorLaws.{same-eq, joined-self}
 use Rattle.diagram.specs.TopLaws.{top-constant, top-joined}
 use Rattle.diagram.specs.Top.{FreeBelow}
 use Rattle.diagram.specs.TestLaws.{cases}
-use Rattle.diagram.specs.FreeLaws.{joined-low, joined-high}
+use Rattle.diagram.specs.TopFreeLaws.{joined-low, joined-high}
 use Rattle.diagram.specs.Tally.{Set, join, build}
 use Rattle.diagram.specs.TallyStepLaws.{writes-again}
 use Rattle.diagram.specs.TallyBuildLaws.{build-writes}

@@ -9,20 +9,20 @@ use Rattle.field.specs.Weight.{Weight, toWeight, 0W, 1W, plusW, timesW, sameW, 
 use Rattle.field.specs.RingLaws.{timesW-comm, timesW-assoc, timesW-one, timesW-plus}
 use Rattle.field.specs.InverseLaws.{inverse}
 use Rattle.diagram.specs.Tensor.{Tensor, weight, split, Bits, tail, same, constant, isZero, scale, times, top}
-use Rattle.diagram.specs.Tensor.{lower, top2, fix, normal, assign, members, power2, membersFrom, two}
+use Rattle.diagram.specs.Tensor.{lowerTop, top2, fix, normal, assign, members, power2, membersFrom, two}
 use Rattle.diagram.specs.TensorLaws.{scale-scale, scale-zero, isZero-eq, zero-constant, scale-one, joined-fix}
 use Rattle.diagram.specs.TensorLaws.{fix-constant, joined-scale, same-eq}
 use Rattle.diagram.specs.TopLaws.{free-below-fix-above, top-constant, top-depends, lower-top, induction}
 use Rattle.diagram.specs.TopLaws.{induction2, free-below-less}
 use Rattle.diagram.specs.Top.{FreeBelow}
-use Rattle.diagram.specs.ScaleLaws.{same-scale, normal-scale}
+use Rattle.diagram.specs.TensorScaleLaws.{same-scale, normal-scale}
 use Rattle.diagram.specs.Tally.{Set, Step, return, _>>=_, joinCases, join, both, sum, contCases, contBody, cont}
 use Rattle.diagram.specs.SetsLaws.{put-present}
 use Rattle.diagram.specs.TallyStepLaws.{scaled-answer, scaled-bind}
 use Rattle.diagram.specs.TallyStep.{ScaledStep}
 use Rattle.diagram.specs.TallySumLaws.{sum-scaled}
-use Rattle.diagram.specs.TallyContLaws.{cont-step, meet-scaled}
-use Rattle.diagram.specs.BitsLaws.{assign-same, assign-other, assign-assign, members-none}
+use Rattle.diagram.specs.TallyContLaws.{cont-step, combine-scaled}
+use Rattle.diagram.specs.TensorBitsLaws.{assign-same, assign-other, assign-assign, members-none}
 use Rattle.diagram.specs.TestLaws.{or-none}
 use Rattle.diagram.specs.Reach.{Covers, itself, part}
 
@@ -84,7 +84,7 @@ cont-cases-skip {d} j false (some k) A B S p e l h =
     (both-scaled (λ A B. cont A B (assign j false (assign k false S))) (λ A B. cont A B (assign k false S)) k A B
     (cond (S k) sum (join k)) (cond (S k) sum (join k))
     (λ x. h k x refl (assign k false S) (assign-other j k false S (λ q. omega arith) ∙ e))
-    (λ L H. meet-scaled two two-nonzero k (S k) L H))
+    (λ L H. combine-scaled two two-nonzero k (S k) L H))
 
 pub cont-skip : {d : ℕ} (j : ℕ) → j < d → (A B : Tensor d) (S : Bits) → FreeBelow (suc j) A → FreeBelow (suc j) B
     → S j ≡ true
@@ -142,7 +142,7 @@ cont-cases-constant {d} b n S m s false (some k) A p e c h =
     rw (assign-same k S false (m k), m k) (both-plain (λ A B. cont A B S) k A (constant d b) (join k) s _ _
     (parts false) (parts true) ∙ join-parts k b n A s e c)
 
-lower-none : (o : Option ℕ) → lower o none ≡ o
+lower-none : (o : Option ℕ) → lowerTop o none ≡ o
 lower-none none = refl
 lower-none (some k) = refl
 

@@ -7,7 +7,7 @@ use Rattle.field.specs.Weight.{Weight, Nonzero}
 use Rattle.diagram.specs.Tensor.{Tensor, same, scale, fix, joined, normal}
 use Rattle.diagram.specs.TensorLaws.{joined-scale, fix-scale}
 use Rattle.diagram.specs.Top.{FreeBelow}
-use Rattle.diagram.specs.ScaleLaws.{same-scale, normal-scale, normal-joined}
+use Rattle.diagram.specs.TensorScaleLaws.{same-scale, normal-scale, normal-joined}
 use Rattle.diagram.specs.Tally.{Set, Step, Binary, return, _>>=_, joinCases, join, both}
 use Rattle.diagram.specs.Sets.{PrefixOf, putAll, Present}
 use Rattle.diagram.specs.SetsLaws.{putAll-append, putAll-grows, present-prefix, putAll-present, present-putAll}

@@ -6,11 +6,11 @@ use Prim.Native.Nat.{ℕ, suc}
 use Rattle.field.specs.Weight.{Weight, 0W, Nonzero}
 use Rattle.diagram.specs.Tensor.{Tensor, constant, isZero, scale, plus, top2, fix, joined, multiple}
 use Rattle.diagram.specs.TensorLaws.{isZero-eq, joined-fix}
-use Rattle.diagram.specs.RingLaws.{zero-plus, plus-zero, joined-plus, scale-plus}
+use Rattle.diagram.specs.TensorRingLaws.{zero-plus, plus-zero, joined-plus, scale-plus}
 use Rattle.diagram.specs.TopLaws.{free-below-fix, free-below-plus, lower-top, onTop2-step, induction2}
 use Rattle.diagram.specs.Descend.{Local2}
 use Rattle.diagram.specs.Top.{FreeBelow}
-use Rattle.diagram.specs.ScaleLaws.{isZero-scale, multiple-scale, top2-scale}
+use Rattle.diagram.specs.TensorScaleLaws.{isZero-scale, multiple-scale, top2-scale}
 use Rattle.diagram.specs.Tally.{Set, Binary, return, _>>=_, join, both, sumCases, sumBody, sum}
 use Rattle.diagram.specs.Sets.{PrefixOf}
 use Rattle.diagram.specs.TallyStepLaws.{writes-return, writes-as, writes-join, writes-both, writes-answer}

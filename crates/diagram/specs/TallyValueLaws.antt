@@ -8,7 +8,7 @@ use Rattle.field.specs.Weight.{Weight, plusW, timesW}
 use Rattle.diagram.specs.Tensor.{Tensor, branch, Bits, bits, at, value, fix, joined, times, scale, assign}
 use Rattle.diagram.specs.Tensor.{renameDown}
 use Rattle.diagram.specs.TensorLaws.{eq-value, at-scale, at-joined, fix-fix, fix-again, fix-joined-other}
-use Rattle.diagram.specs.RingLaws.{at-plus, at-times, fix-times}
+use Rattle.diagram.specs.TensorRingLaws.{at-plus, at-times, fix-times}
 use Rattle.diagram.specs.Top.{Free}
 use Rattle.diagram.specs.Tally.{Set, join, sum, cont, low, build}
 use Rattle.diagram.specs.TallyStepLaws.{join-meaning}

@@ -20,6 +20,7 @@ indices = indexCount
 abbrev pub masks : ℕ
 masks = 16777216
 
+-- the one law of a definitions file: nothing outside can open `indices`
 pub indices-count : indices ≡ indexCount
 unfolding indices
 indices-count = refl
@@ -138,13 +139,13 @@ plus (weight a) (weight b) = weight (plusW a b)
 plus (split l h) (split l' h') = split (plus l l') (plus h h')
 
 -- sum and cont: "k is the lower top"
-abbrev pub lower : Option ℕ → Option ℕ → Option ℕ
-lower none b = b
-lower (some j) none = some j
-lower (some j) (some k) = some (cond (leb j k) j k)
+abbrev pub lowerTop : Option ℕ → Option ℕ → Option ℕ
+lowerTop none b = b
+lowerTop (some j) none = some j
+lowerTop (some j) (some k) = some (cond (leb j k) j k)
 
 unfoldable pub top2 : {d : ℕ} → Tensor d → Tensor d → Option ℕ
-top2 A B = lower (top A) (top B)
+top2 A B = lowerTop (top A) (top B)
 
 -- cont: "their product"
 unfoldable pub times : {d : ℕ} → Tensor d → Tensor d → Tensor d

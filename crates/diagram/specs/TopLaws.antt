@@ -10,7 +10,8 @@ use borrow.Author.Tests.{leb-true, leb-false}
 use Rattle.diagram.specs.Descend.{topMeasure, Local, Local2, onTop, onTop2}
 use Rattle.diagram.specs.DescendLaws.{descend-step, descend-induction}
 use Rattle.field.specs.Weight.{Weight}
-use Rattle.diagram.specs.Tensor.{Tensor, weight, split, same, constant, next, top, lower, top2, fix, joined, plus}
+use Rattle.diagram.specs.Tensor.{Tensor, weight, split, same, constant, next, top, lowerTop, top2, fix}
+use Rattle.diagram.specs.Tensor.{joined, plus}
 use Rattle.diagram.specs.Tensor.{times, lowHalf}
 use Rattle.diagram.specs.TestLaws.{and-same, some-same}
 use Rattle.diagram.specs.TensorLaws.{same-refl, same-eq, eq-same}
@@ -162,7 +163,7 @@ unfolding top2
 lower-top {d} A B k e = go (top A) (top B) e (λ j. free-below-top j A) (λ j. free-below-top j B)
     (λ j. top-free-below j A) (λ j. top-free-below j B) (top-within A) (top-within B)
   where
-    go : (a b : Option ℕ) → lower a b ≡ some k → ((j : ℕ) → TopAtLeast j a → FreeBelow j A)
+    go : (a b : Option ℕ) → lowerTop a b ≡ some k → ((j : ℕ) → TopAtLeast j a → FreeBelow j A)
         → ((j : ℕ) → TopAtLeast j b → FreeBelow j B)
         → ((j : ℕ) → FreeBelow j A → TopAtLeast j a) → ((j : ℕ) → FreeBelow j B → TopAtLeast j b) → TopWithin d a
         → TopWithin d b → IsLowerTop A B k
@@ -199,7 +200,7 @@ lower-top {d} A B k e = go (top A) (top B) e (λ j. free-below-top j A) (λ j. f
               least = λ m x y. omega (arith, g' m y);
             }
 
-lower-least : (k : ℕ) (a b : Option ℕ) → TopAtLeast k a → TopAtLeast k b → TopAtLeast k (lower a b)
+lower-least : (k : ℕ) (a b : Option ℕ) → TopAtLeast k a → TopAtLeast k b → TopAtLeast k (lowerTop a b)
 lower-least k none b p q = q
 lower-least k (some i) none p q = p
 lower-least k (some i) (some j) p q = go (leb i j)

@@ -7,7 +7,7 @@ use Rattle.diagram.specs.Tensor.{Tensor, input, middle, constant, joined
 use Rattle.diagram.specs.Top.{FreeBelow}
 use Rattle.diagram.specs.Tally.{build}
 use Rattle.diagram.specs.Meaning.{Valid}
-use Rattle.diagram.specs.Engine.{setOf, tensorOf, Sound}
+use Rattle.diagram.specs.Store.{setOf, tensorOf, Sound}
 use Rattle.diagram.specs.declared.node.Edge.{Edge}
 use Rattle.diagram.specs.declared.make.State.{State}
 

@@ -21,9 +21,9 @@ use Rattle.diagram.specs.TallyStepLaws.{writes-grows, writes-again, writ
 use Rattle.diagram.specs.TallyBuildLaws.{build-writes}
 use Rattle.diagram.specs.TallyPartsLaws.{build-weight, build-joined}
 use Rattle.diagram.specs.MeaningLaws.{valid-more}
-use Rattle.diagram.specs.Engine.{setOf, tensorOf, Sound, RefinesEdge, RefinesFull, Refines}
-use Rattle.diagram.specs.EngineLaws.{refines-as, refines-edge, refines-full, sets-prefix, tensor-kept}
-use Rattle.diagram.specs.EngineLaws.{refines-count, refines-then, refines-full-more}
+use Rattle.diagram.specs.Store.{setOf, tensorOf, Sound, RefinesEdge, RefinesFull, Refines}
+use Rattle.diagram.specs.StoreLaws.{refines-as, refines-edge, refines-full, sets-prefix, tensor-kept}
+use Rattle.diagram.specs.StoreLaws.{refines-count, refines-then, refines-full-more}
 use Rattle.diagram.specs.Join.{JoinRequires}
 use Rattle.diagram.specs.BuildLaws.{constant-valid, constant-tensor, built-constant, built-tensor, built-set}
 use Rattle.diagram.specs.BuildLaws.{build-whole, build-front, build-low-full, build-high-full, build-joins}

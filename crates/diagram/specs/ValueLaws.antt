@@ -12,10 +12,10 @@ use Rattle.diagram.specs.Tensor.{Tensor, bits, at, value, fix, scale, co
 use Rattle.diagram.specs.TensorLaws.{at-fix, at-scale, at-constant}
 use Rattle.diagram.specs.Meaning.{Valid}
 use Rattle.diagram.specs.CanonicalLaws.{edge-constant}
-use Rattle.diagram.specs.Engine.{nodesOf, setOf, tensorOf, levelOf, Sound}
+use Rattle.diagram.specs.Store.{nodesOf, setOf, tensorOf, levelOf, Sound}
 use Rattle.diagram.specs.EdgeLaws.{index-inside}
 use Rattle.diagram.specs.Edge.{CofactorRequires, IsCofactor}
-use Rattle.diagram.specs.BitsLaws.{assign-same}
+use Rattle.diagram.specs.TensorBitsLaws.{assign-same}
 use Rattle.diagram.specs.Value.{ValueLoop}
 use Rattle.diagram.specs.declared.node.Edge.{Edge}
 use Rattle.diagram.specs.declared.make.State.{State}

@@ -1,15 +1,5 @@
 -- The field's weights, passed on to the layers above, which name no field.
-use mathlib.Core.Path.{_≡_, ap, sym, _∙_}
-use Prim.Native.Nat.{ℕ}
 pub use Rattle.field.specs.Weight.{modulus, Weight, toWeight, 0W, 1W, plusW, timesW, negateW, sameW}
 pub use Rattle.field.specs.Weight.{onesPower, inverseW}
 pub use Rattle.field.specs.Weight.{eighthRoot, imaginaryUnit, rootTwo, inverseRootTwo, Nonzero}
 pub use Rattle.field.specs.Field.{Represents}
-pub use Rattle.field.specs.RingLaws.{plusW-comm, plusW-assoc, plusW-zero, timesW-comm, timesW-assoc, timesW-one}
-pub use Rattle.field.specs.RingLaws.{timesW-zero, timesW-plus, weight-number, number-weight, weight-zero, weight-one}
-pub use Rattle.field.specs.RingLaws.{nonzero-weight, nonzero-not}
-pub use Rattle.field.specs.InverseLaws.{inverse-nonzero}
-
--- the number that represents a weight is the weight's
-pub represents-number : {r : ℕ} {w : Weight} → Represents r w → r ≡ w .number
-represents-number {r} n = sym (number-weight r (n .small)) ∙ ap (λ (x : Weight). x .number) (n .is)

@@ -16,12 +16,12 @@ ghost use Prim.Native.Nat.{_+_, _^_, _≤_, _<_};
 ghost use Rattle.diagram.specs.Tensor.{indices, indexCount};
 ghost use Rattle.diagram.specs.Tally.{build};
 ghost use Rattle.diagram.specs.Gate.{gateTensor};
-ghost use Rattle.diagram.specs.Engine.{Sound, Refines};
+ghost use Rattle.diagram.specs.Store.{Sound, Refines};
 ghost use Rattle.diagram.specs.Entry.{QubitsInRange};
 ghost use Rattle.diagram.specs.Build.{NoneOwned, NoneUsed, gatePart, BitsBelow};
 
 // v with bit k set.
-fn high(v: Assignment, k: Index) -> Assignment
+fn with_bit(v: Assignment, k: Index) -> Assignment
     requires { ⌜ BitsBelow k v × (k ≢ indexCount) ⌝ }
     ensures { λ r. ⌜ r ≡ v + 2 ^ k ⌝ }
 {
@@ -49,12 +49,12 @@ fn owned(p: Qubit, q: Qubit, k: Index) -> Index
 }
 
 // The first index from k on that the gate uses, or the number of indices.
-fn next(g: Gate, k: Index) -> Index
+fn next_used(g: Gate, k: Index) -> Index
     requires { ⌜ QubitsInRange g × (k ≤ indexCount) ⌝ }
     ensures { λ r. ⌜ NoneUsed g k r ⌝ }
 {
-    let a = gate::first(g);
-    let b = gate::second(g);
+    let a = gate::first_qubit(g);
+    let b = gate::second_qubit(g);
     if a < b {
         owned(a, b, k)
     } else {
@@ -72,11 +72,11 @@ fn part(store: &mut [u8], s: State, g: Gate, k: Index, v: Assignment) -> Outcome
         let weight = entry::entry(g, v);
         return Outcome::Edge(Edge { weight, node: 0 }, s);
     }
-    let n = next(g, k + 1);
+    let n = next_used(g, k + 1);
     let Outcome::Edge(l, t) = part(store, s, g, n, v) else {
         return Outcome::Full;
     };
-    let w = high(v, k);
+    let w = with_bit(v, k);
     let Outcome::Edge(h, u) = part(store, t, g, n, w) else {
         return Outcome::Full;
     };
@@ -87,6 +87,6 @@ pub fn gate(store: &mut [u8], s: State, g: Gate) -> Outcome
     requires { ⌜ Sound (now store) s × QubitsInRange g ⌝ }
     ensures { λ r. ⌜ Refines (now (store .entry)) (now (store .exit)) s (build (gateTensor indices g)) r ⌝ }
 {
-    let k = next(g, 0);
+    let k = next_used(g, 0);
     part(store, s, g, k, 0)
 }

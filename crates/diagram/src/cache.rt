@@ -25,7 +25,7 @@ pub struct Key {
     pub arg: u64,
 }
 
-pub enum Found {
+pub enum LookupResult {
     Hit(Edge),
     Miss,
 }
@@ -81,30 +81,30 @@ fn place(slots: usize, key: Key) -> usize
     m % slots
 }
 
-pub(crate) fn lookup(cache: &[u64], epoch: Epoch, key: Key) -> Found
+pub(crate) fn lookup(cache: &[u64], epoch: Epoch, key: Key) -> LookupResult
     requires { ⌜ KeyFits key ⌝ }
     ensures { λ f. ⌜ LookupEnsures (now (cache .entry)) epoch key f ⌝ }
 {
     let slots = cache.len() / 4;
     if slots == 0 {
-        return Found::Miss;
+        return LookupResult::Miss;
     }
     let i = place(slots, key);
     let word = packed(key);
     let arg = key.arg;
     let at = 4 * i;
     if cache[at] != word {
-        return Found::Miss;
+        return LookupResult::Miss;
     }
     if cache[at + 1] != arg {
-        return Found::Miss;
+        return LookupResult::Miss;
     }
     if cache[at + 2] != epoch {
-        return Found::Miss;
+        return LookupResult::Miss;
     }
     let w = cache[at + 3];
     let n = narrow(w % 65536);
-    Found::Hit(Edge {
+    LookupResult::Hit(Edge {
         weight: w / 65536,
         node: n,
     })
@@ -143,7 +143,7 @@ pub(crate) fn clear(cache: &mut [u64])
 }
 
 // An epoch that no entry is of. At the largest one everything is forgotten, so that an epoch never comes twice.
-pub(crate) fn step(cache: &mut [u64], epoch: Epoch) -> Epoch
+pub(crate) fn next_epoch(cache: &mut [u64], epoch: Epoch) -> Epoch
     requires { ⌜ NoneLater (now cache) epoch ⌝ }
     ensures { λ r. ⌜ AllEarlier (now (cache .exit)) r ⌝ }
 {

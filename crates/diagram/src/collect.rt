@@ -12,18 +12,18 @@ ghost use Rattle.diagram.specs.Mark.{ChildrenBefore};
 ghost use Rattle.diagram.specs.Registers.{RegistersValid};
 ghost use Rattle.diagram.specs.Collect.{SweepEnsures, CollectRequires, CollectEnsures};
 
-struct Swept {
+struct SweepResult {
     count: usize,
     registers: Registers,
 }
 
-pub struct Collected {
+pub struct CollectResult {
     pub state: State,
     pub registers: Registers,
 }
 
 // Moves the reached nodes down; the answer is how many they are, and the registers with their nodes' new numbers.
-fn sweep(store: &mut [u8], count: usize, registers: Registers) -> Swept
+fn sweep(store: &mut [u8], count: usize, registers: Registers) -> SweepResult
     requires { ⌜ (16 * count ≤ length (now store)) × ((count < 65536) ×
         (ChildrenBefore (nodeAt (now store)) count × RegistersValid count (registers .all))) ⌝ }
     ensures { λ r. ⌜ SweepEnsures count (registers .all) (now (store .entry)) (now (store .exit)) (r .count)
@@ -32,7 +32,7 @@ fn sweep(store: &mut [u8], count: usize, registers: Registers) -> Swept
     mark::reach(store, count, registers);
     let kept = compact::compact(store, count);
     let registers = compact::renumber(store, count, registers);
-    Swept {
+    SweepResult {
         count: kept,
         registers,
     }
@@ -50,7 +50,7 @@ fn fewer(count: usize, buckets: usize) -> usize
     b
 }
 
-pub fn collect(store: &mut [u8], cache: &mut [u64], s: State, registers: Registers) -> Collected
+pub fn collect(store: &mut [u8], cache: &mut [u64], s: State, registers: Registers) -> CollectResult
     requires { ⌜ CollectRequires (now cache) (now store) s (registers .all) ⌝ }
     ensures { λ r. ⌜ CollectEnsures (now (cache .exit)) (now (store .entry)) (now (store .exit)) s (r .state)
         (registers .all) (r .registers .all) ⌝ }
@@ -69,5 +69,5 @@ pub fn collect(store: &mut [u8], cache: &mut [u64], s: State, registers: Registe
             epoch,
         },
     );
-    Collected { state, registers }
+    CollectResult { state, registers }
 }

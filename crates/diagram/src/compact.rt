@@ -53,7 +53,7 @@ fn shift(s: &mut [u8], n: NodeNumber, k: NodeNumber)
 }
 
 // Looks at node m + 1, where k nodes have moved; the answer is how many have then.
-fn step(s: &mut [u8], count: usize, m: usize, k: usize) -> usize
+fn compact_step(s: &mut [u8], count: usize, m: usize, k: usize) -> usize
     requires { ⌜ (m < count) × ((16 * count ≤ length (now s)) ×
         ((count < 65536) × ((k ≤ m) × (field (now s) 5 m ≢ 0 → ChildrenWithin (now s) (m + 1))))) ⌝ }
     ensures { λ r. ⌜ CompactStepEnsures count (now (s .entry)) (now (s .exit)) m k r ⌝ }
@@ -76,7 +76,7 @@ pub(crate) fn compact(s: &mut [u8], count: usize) -> usize
     let mut m = 0;
     let mut k: usize = 0;
     while m < count {
-        k = step(s, count, m, k);
+        k = compact_step(s, count, m, k);
         m += 1;
     }
     k

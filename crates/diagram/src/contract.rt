@@ -1,7 +1,7 @@
 // The contraction of two tensors over a set of indices (document 01, cont).
 use crate::cache;
-use crate::cache::Found;
 use crate::cache::Key;
+use crate::cache::LookupResult;
 use crate::cache::Op;
 use crate::edge;
 use crate::join;
@@ -18,7 +18,7 @@ ghost use Prim.Native.Nat.{_≤_, _<_};
 ghost use Rattle.field.specs.Weight.{modulus};
 ghost use Rattle.diagram.specs.Tensor.{bits, masks, indexCount};
 ghost use Rattle.diagram.specs.Tally.{cont};
-ghost use Rattle.diagram.specs.Engine.{tensorOf};
+ghost use Rattle.diagram.specs.Store.{tensorOf};
 ghost use Rattle.diagram.specs.Join.{JoinRequires};
 ghost use Rattle.diagram.specs.Operation.{OperationRequires, RefinesCached, HighRequires, highStep};
 ghost use Rattle.diagram.specs.Contract.{ContractReduced, FactoredEnsures, contWithout, combine};
@@ -66,8 +66,8 @@ pub fn contract(store: &mut [u8], cache: &mut [u64], s: State, a: Edge, b: Edge,
     }
     let reduced = Edge { weight: 1, node: x };
     let other = Edge { weight: 1, node: y };
-    let made = contract_cached(store, cache, s, reduced, other, rest);
-    operation::times(weight, made)
+    let outcome = contract_cached(store, cache, s, reduced, other, rest);
+    operation::times(weight, outcome)
 }
 
 // The contraction of edges of weight 1, not both constant: remembered, or worked out and remembered.
@@ -93,12 +93,12 @@ fn contract_cached(
         right,
         arg: m,
     };
-    if let Found::Hit(e) = cache::lookup(cache, epoch, key) {
+    if let LookupResult::Hit(e) = cache::lookup(cache, epoch, key) {
         return Outcome::Edge(e, s);
     }
-    let made = contract_split(store, cache, s, a, b, m);
-    operation::keep(cache, epoch, key, made);
-    made
+    let outcome = contract_split(store, cache, s, a, b, m);
+    operation::keep(cache, epoch, key, outcome);
+    outcome
 }
 
 // "L = cont(A0,B0,S')", and then the rest.
@@ -146,11 +146,11 @@ fn contract_high(
     let Outcome::Edge(h, t) = contract(store, cache, s, a1, b1, rest) else {
         return Outcome::Full;
     };
-    meet(store, cache, t, m, k, l, h)
+    combine(store, cache, t, m, k, l, h)
 }
 
 // "the answer is sum(L,H) if k is in S, else join(k,L,H)"
-fn meet(
+fn combine(
     store: &mut [u8],
     cache: &mut [u64],
     s: State,

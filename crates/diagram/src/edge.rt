@@ -10,7 +10,7 @@ ghost use Prim.Native.Nat.{_≤_, _<_};
 ghost use Rattle.field.specs.Weight.{modulus};
 ghost use Rattle.diagram.specs.Tensor.{indexCount};
 ghost use Rattle.diagram.specs.Meaning.{Valid};
-ghost use Rattle.diagram.specs.Engine.{Sound, levelOf};
+ghost use Rattle.diagram.specs.Store.{Sound, levelOf};
 ghost use Rattle.diagram.specs.Edge.{IsMultiple, IsSum, IsCofactor, CofactorRequires};
 
 // The index of the edge's node; the number of indices for a constant.

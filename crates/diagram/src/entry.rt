@@ -51,8 +51,8 @@ pub(crate) fn entry(g: Gate, v: Assignment) -> Weight
     requires { ⌜ QubitsInRange g ⌝ }
     ensures { λ r. ⌜ Represents r (entryOf g (bits v)) ⌝ }
 {
-    let a = gate::first(g);
-    let b = gate::second(g);
+    let a = gate::first_qubit(g);
+    let b = gate::second_qubit(g);
     match g {
         Gate::Cx(_, _) => pair(
             [[1, 0, 0, 0], [0, 1, 0, 0], [0, 0, 0, 1], [0, 0, 1, 0]],

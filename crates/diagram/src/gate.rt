@@ -63,7 +63,7 @@ pub fn shape_of(g: Gate) -> Shape
 }
 
 // The gate's qubit, or its first.
-pub(crate) fn first(g: Gate) -> Qubit
+pub(crate) fn first_qubit(g: Gate) -> Qubit
     ensures { λ r. ⌜ r ≡ firstQubit g ⌝ }
 {
     match shape_of(g) {
@@ -73,7 +73,7 @@ pub(crate) fn first(g: Gate) -> Qubit
 }
 
 // The gate's qubit again, or its second.
-pub(crate) fn second(g: Gate) -> Qubit
+pub(crate) fn second_qubit(g: Gate) -> Qubit
     ensures { λ r. ⌜ r ≡ secondQubit g ⌝ }
 {
     match shape_of(g) {

@@ -60,7 +60,7 @@ pub(crate) fn rebuild(s: &mut [u8], count: usize, buckets: usize)
 
 // More buckets, where the nodes have become more than the buckets and the store has room. The answer is the number of
 // buckets.
-pub(crate) fn grow(s: &mut [u8], count: usize, buckets: usize) -> usize
+pub(crate) fn grow_table(s: &mut [u8], count: usize, buckets: usize) -> usize
     requires { ⌜ TableSound (now s) count buckets ⌝ }
     ensures { λ r. ⌜ RebuildEnsures (now (s .entry)) (now (s .exit)) count r ⌝ }
 {

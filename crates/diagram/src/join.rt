@@ -7,7 +7,7 @@ use crate::node::Edge;
 use crate::node::Index;
 use crate::normalise;
 ghost use Rattle.diagram.specs.Tally.{join as joins};
-ghost use Rattle.diagram.specs.Engine.{tensorOf, Sound, Refines};
+ghost use Rattle.diagram.specs.Store.{tensorOf, Sound, Refines};
 ghost use Rattle.diagram.specs.Join.{JoinRequires};
 
 // An edge to the result, and the state then; or the nodes would be more than the store holds.

@@ -1,7 +1,7 @@
 // An index renamed to the one before it (document 01, low).
 use crate::cache;
-use crate::cache::Found;
 use crate::cache::Key;
+use crate::cache::LookupResult;
 use crate::cache::Op;
 use crate::edge;
 use crate::join;
@@ -11,7 +11,7 @@ use crate::node::Edge;
 use crate::node::Index;
 use crate::operation;
 ghost use Rattle.diagram.specs.Tally.{low, join as joins};
-ghost use Rattle.diagram.specs.Engine.{tensorOf};
+ghost use Rattle.diagram.specs.Store.{tensorOf};
 ghost use Rattle.diagram.specs.Operation.{OperationRequires, RefinesCached, HighRequires, highStep};
 ghost use Rattle.diagram.specs.Lower.{LowerRequires, LowerReduced, LowerHighRequires, lowFirst};
 
@@ -29,8 +29,8 @@ pub fn lower(store: &mut [u8], cache: &mut [u64], s: State, a: Edge, k: Index) -
     let w = a.weight;
     let n = a.node;
     let reduced = Edge { weight: 1, node: n };
-    let made = lower_cached(store, cache, s, reduced, k);
-    operation::times(w, made)
+    let outcome = lower_cached(store, cache, s, reduced, k);
+    operation::times(w, outcome)
 }
 
 // The same for an edge of weight 1 whose top is at most k: remembered, or worked out and remembered.
@@ -49,12 +49,12 @@ fn lower_cached(store: &mut [u8], cache: &mut [u64], s: State, a: Edge, k: Index
         right: n,
         arg,
     };
-    if let Found::Hit(e) = cache::lookup(cache, epoch, key) {
+    if let LookupResult::Hit(e) = cache::lookup(cache, epoch, key) {
         return Outcome::Edge(e, s);
     }
-    let made = lower_split(store, cache, s, a, k);
-    operation::keep(cache, epoch, key, made);
-    made
+    let outcome = lower_split(store, cache, s, a, k);
+    operation::keep(cache, epoch, key, outcome);
+    outcome
 }
 
 // "If the top is k, join(k-1, A0, A1). Else join(top, low(A0,k), low(A1,k)).": the low part, and then the rest.

@@ -40,7 +40,7 @@ pub(crate) fn make(s: &mut [u8], state: State, x: Node) -> Slot
     }
     insert::append(s, count, buckets, x);
     let n = count + 1;
-    let more = insert::grow(s, n, buckets);
+    let more = insert::grow_table(s, n, buckets);
     let epoch = state.epoch;
     let next = State {
         count: n,

@@ -9,7 +9,7 @@ ghost use Prim.Native.Nat.{_*_, _≤_};
 ghost use lib.ListN.{length};
 ghost use Rattle.diagram.specs.Node.{RecordWithin, nodeAt};
 ghost use Rattle.diagram.specs.Compact.{ChildrenWithin};
-ghost use Rattle.diagram.specs.Mark.{MarkEnsures, ChildrenBefore, LookEnsures, SpreadEnsures, NoneMarked};
+ghost use Rattle.diagram.specs.Mark.{MarkEnsures, ChildrenBefore, MarkChildrenEnsures, SpreadEnsures, NoneMarked};
 ghost use Rattle.diagram.specs.Mark.{RootEnsures, RootsEnsures, ReachEnsures};
 ghost use Rattle.diagram.specs.Registers.{edgesOf, RegistersValid};
 
@@ -25,9 +25,9 @@ pub(crate) fn mark(s: &mut [u8], c: NodeNumber)
 }
 
 // Marks the children of node n, if it is marked.
-fn look(s: &mut [u8], count: usize, n: NodeNumber)
+fn mark_children(s: &mut [u8], count: usize, n: NodeNumber)
     requires { ⌜ RecordWithin (now s) n × ((n ≤ count) × ChildrenWithin (now s) n) ⌝ }
-    ensures { λ _. ⌜ LookEnsures count (now (s .entry)) (now (s .exit)) n ⌝ }
+    ensures { λ _. ⌜ MarkChildrenEnsures count (now (s .entry)) (now (s .exit)) n ⌝ }
 {
     if fields::get(s, 5, n - 1) == 0 {
         return;
@@ -46,7 +46,7 @@ fn spread(s: &mut [u8], count: usize)
 {
     let mut n = count;
     while 0 < n {
-        look(s, count, n);
+        mark_children(s, count, n);
         n -= 1;
     }
 }

@@ -13,7 +13,7 @@ ghost use Prim.Native.Nat.{_≤_, _<_};
 ghost use Rattle.field.specs.Weight.{modulus};
 ghost use Rattle.diagram.specs.Tensor.{indexCount};
 ghost use Rattle.diagram.specs.Meaning.{Valid};
-ghost use Rattle.diagram.specs.Engine.{Sound};
+ghost use Rattle.diagram.specs.Store.{Sound};
 ghost use Rattle.diagram.specs.Cache.{KeyFits};
 ghost use Rattle.diagram.specs.Operation.{lowestOf, OutcomeFits, MultipleOutcome, KeepEnsures};
 
@@ -27,24 +27,24 @@ pub(crate) fn lowest(store: &[u8], s: State, a: Edge, b: Edge) -> Index
     if j < k { j } else { k }
 }
 
-// w times the answer: the weight that was taken out comes back.
-pub(crate) fn times(w: Weight, made: Outcome) -> Outcome
-    requires { ⌜ (w < modulus) × OutcomeFits made ⌝ }
-    ensures { λ r. ⌜ MultipleOutcome w made r ⌝ }
+// w times the outcome: the weight that was taken out comes back.
+pub(crate) fn times(w: Weight, outcome: Outcome) -> Outcome
+    requires { ⌜ (w < modulus) × OutcomeFits outcome ⌝ }
+    ensures { λ r. ⌜ MultipleOutcome w outcome r ⌝ }
 {
-    let Outcome::Edge(e, t) = made else {
+    let Outcome::Edge(e, t) = outcome else {
         return Outcome::Full;
     };
     let f = edge::times(w, e);
     Outcome::Edge(f, t)
 }
 
-// Remembers the answer, unless it is that the store is full.
-pub(crate) fn keep(cache: &mut [u64], epoch: Epoch, key: Key, made: Outcome)
-    requires { ⌜ KeyFits key × OutcomeFits made ⌝ }
-    ensures { λ _. ⌜ KeepEnsures (now (cache .entry)) (now (cache .exit)) epoch key made ⌝ }
+// Remembers the outcome, unless it is that the store is full.
+pub(crate) fn keep(cache: &mut [u64], epoch: Epoch, key: Key, outcome: Outcome)
+    requires { ⌜ KeyFits key × OutcomeFits outcome ⌝ }
+    ensures { λ _. ⌜ KeepEnsures (now (cache .entry)) (now (cache .exit)) epoch key outcome ⌝ }
 {
-    if let Outcome::Edge(e, _) = made {
+    if let Outcome::Edge(e, _) = outcome {
         cache::remember(cache, epoch, key, e);
     }
 }

@@ -28,21 +28,21 @@ pub fn empty() -> Registers
 }
 
 // What a register holds.
-pub enum Held {
+pub enum RegisterContent {
     Edge(Edge),
     Empty,
 }
 
-pub fn get(registers: Registers, i: RegisterNumber) -> Held
+pub fn get(registers: Registers, i: RegisterNumber) -> RegisterContent
     requires { ⌜ i < 16 ⌝ }
     ensures { λ r. ⌜ GetEnsures (registers .all) i r ⌝ }
 {
     let r = registers.all[i];
     if r.filled == 1 {
         let e = r.edge;
-        return Held::Edge(e);
+        return RegisterContent::Edge(e);
     }
-    Held::Empty
+    RegisterContent::Empty
 }
 
 // Register i set to an edge.

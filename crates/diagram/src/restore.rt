@@ -27,7 +27,7 @@ pub fn rollback(store: &mut [u8], cache: &mut [u64], s: State) -> State
     let count = s.count;
     let buckets = s.buckets;
     let old = s.epoch;
-    let epoch = cache::step(cache, old);
+    let epoch = cache::next_epoch(cache, old);
     if 16 <= store.len() {
         insert::rebuild(store, count, buckets);
     }

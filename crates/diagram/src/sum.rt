@@ -1,7 +1,7 @@
 // The sum of two tensors (document 01, sum).
 use crate::cache;
-use crate::cache::Found;
 use crate::cache::Key;
+use crate::cache::LookupResult;
 use crate::cache::Op;
 use crate::edge;
 use crate::join;
@@ -11,7 +11,7 @@ use crate::node::Edge;
 use crate::node::Index;
 use crate::operation;
 ghost use Rattle.diagram.specs.Tally.{sum as sums, join as joins};
-ghost use Rattle.diagram.specs.Engine.{tensorOf};
+ghost use Rattle.diagram.specs.Store.{tensorOf};
 ghost use Rattle.diagram.specs.Operation.{OperationRequires, RefinesCached, HighRequires, highStep};
 ghost use Rattle.diagram.specs.Sum.{SumReduced};
 
@@ -39,8 +39,8 @@ pub fn sum(store: &mut [u8], cache: &mut [u64], s: State, a: Edge, b: Edge) -> O
     let r = field::mul(i, w);
     let left = Edge { weight: 1, node: m };
     let right = Edge { weight: r, node: n };
-    let made = sum_cached(store, cache, s, left, right);
-    operation::times(v, made)
+    let outcome = sum_cached(store, cache, s, left, right);
+    operation::times(v, outcome)
 }
 
 // The sum of edges to different nodes, the first of weight 1: remembered, or worked out and remembered.
@@ -60,12 +60,12 @@ fn sum_cached(store: &mut [u8], cache: &mut [u64], s: State, a: Edge, b: Edge) -
         right,
         arg,
     };
-    if let Found::Hit(e) = cache::lookup(cache, epoch, key) {
+    if let LookupResult::Hit(e) = cache::lookup(cache, epoch, key) {
         return Outcome::Edge(e, s);
     }
-    let made = sum_split(store, cache, s, a, b);
-    operation::keep(cache, epoch, key, made);
-    made
+    let outcome = sum_split(store, cache, s, a, b);
+    operation::keep(cache, epoch, key, outcome);
+    outcome
 }
 
 // "join(k, sum(A0,B0), sum(A1,B1))": the low parts, and then the rest.

@@ -8,7 +8,7 @@ ghost use Prim.Native.Nat.{_-_, _≤_};
 ghost use Rattle.diagram.specs.Tensor.{indices};
 ghost use Rattle.diagram.specs.Tally.{build};
 ghost use Rattle.diagram.specs.Gate.{unitTensor};
-ghost use Rattle.diagram.specs.Engine.{tensorOf, Sound, Refines};
+ghost use Rattle.diagram.specs.Store.{tensorOf, Sound, Refines};
 ghost use Rattle.diagram.specs.Unit.{OntoRequires, onto as ontoOf, unitFrom};
 
 // Qubit q before e, which has the qubits after it.

@@ -8,7 +8,7 @@ use crate::node::Weight;
 ghost use Rattle.field.specs.Field.{Represents};
 ghost use Rattle.diagram.specs.Tensor.{value as valued};
 ghost use Rattle.diagram.specs.Meaning.{Valid};
-ghost use Rattle.diagram.specs.Engine.{Sound, tensorOf};
+ghost use Rattle.diagram.specs.Store.{Sound, tensorOf};
 
 // The weight at the assignment whose bit k is the value of index k, by walking down.
 pub fn value(store: &[u8], s: State, a: Edge, v: Assignment) -> Weight

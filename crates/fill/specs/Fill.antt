@@ -4,7 +4,7 @@ use mathlib.Core.List.{List}
 use Prim.Native.Nat.{ℕ, _≤_}
 use lib.ListN.{length}
 use Rattle.diagram.specs.Tally.{join}
-use Rattle.diagram.specs.Engine.{nodesOf, tensorOf, Sound, Refines}
+use Rattle.diagram.specs.Store.{nodesOf, tensorOf, Sound, Refines}
 use Rattle.diagram.specs.Cache.{Remembers}
 use Rattle.diagram.specs.Sets.{PrefixOf}
 use Rattle.diagram.specs.declared.node.Edge.{Edge}

@@ -6,7 +6,7 @@ use native.Mathlib.Omega.{arith}
 use Rattle.diagram.specs.Weights.{modulus}
 use Rattle.diagram.specs.Tensor.{indexCount, indices, Tensor}
 use Rattle.diagram.specs.Tally.{Step, join}
-use Rattle.diagram.specs.Engine.{setOf, tensorOf, Sound, RefinesEdge, Refines}
+use Rattle.diagram.specs.Store.{setOf, tensorOf, Sound, RefinesEdge, Refines}
 use Rattle.diagram.specs.Join.{JoinRequires}
 use Rattle.diagram.specs.Restore.{RollbackRequires}
 use Rattle.diagram.specs.Top.{FreeBelow}
@@ -14,7 +14,7 @@ use Rattle.diagram.specs.TopLaws.{free-below-constant, free-below-joined}
 use Rattle.diagram.specs.SetsLaws.{prefix-trans}
 use Rattle.diagram.specs.TallyStepLaws.{join-meaning}
 use Rattle.diagram.specs.MeaningLaws.{valid-more}
-use Rattle.diagram.specs.EngineLaws.{refines-edge, refines-full, tensor-kept, kept-after, refines-count}
+use Rattle.diagram.specs.StoreLaws.{refines-edge, refines-full, tensor-kept, kept-after, refines-count}
 use Rattle.diagram.specs.RestoreLaws.{rollback-of}
 use Rattle.diagram.specs.BuildLaws.{constant-valid, constant-tensor}
 use Rattle.diagram.specs.CacheLaws.{remembers-more}

@@ -7,7 +7,7 @@ use diagram::node::Edge;
 use diagram::restore;
 ghost use Prim.Native.Nat.{_+_, _<_};
 ghost use Rattle.diagram.specs.Weights.{modulus};
-ghost use Rattle.diagram.specs.Engine.{Sound};
+ghost use Rattle.diagram.specs.Store.{Sound};
 ghost use Rattle.fill.specs.Fill.{LeafEnsures, PairEnsures, FillInvariant};
 
 // The store has room for one node less than the pattern has.

@@ -7,10 +7,10 @@ use lib.ListN.{length}
 use Rattle.diagram.specs.Node.{capacity}
 use Rattle.text.specs.Text.{lines}
 use Rattle.text.specs.Print.{written}
-use Rattle.text.specs.Session.{most, emptyRun}
+use Rattle.text.specs.Session.{atMost, emptyRun}
 use Rattle.text.specs.Agrees.{AgreesThroughout}
 use Rattle.text.specs.Judge.{VerdictEnsures}
-use Rattle.text.specs.declared.progress.Session.{Session}
+use Rattle.text.specs.declared.progress.SessionResult.{SessionResult}
 use Rattle.text.specs.declared.ruling.VerdictResult.{VerdictResult}
 use Rattle.jorehyi.specs.Words.{sessionSize, verdictSize, sessionWords, verdictWords}
 
@@ -26,23 +26,23 @@ memory s c o w = record { store = s; cache = c; output = o; result = w }
 
 -- a session was run, and its result is the first words
 pub record SessionOutcome (text : List ℕ) (before after : Memory) : Type 0 where
-  pub result : Session
+  pub result : SessionResult
   pub agrees : AgreesThroughout
-      (most (capacity (before .store))) (lines text) emptyRun (after .store) (before .output) (after .output) result
+      (atMost (capacity (before .store))) (lines text) emptyRun (after .store) (before .output) (after .output) result
   pub words : after .result ≡ written (before .result) 0 (sessionWords result)
 
 -- a verdict was given, and its result is the first words
 pub record VerdictOutcome (text : List ℕ) (before after : Memory) : Type 0 where
   pub result : VerdictResult
-  pub gives : VerdictEnsures text (before .store) (before .output) (after .output) result
+  pub verdict : VerdictEnsures text (before .store) (before .output) (after .output) result
   pub words : after .result ≡ written (before .result) 0 (verdictWords result)
 
 -- where the result has room the session is run, and where it has none nothing is changed; the answer says which
 pub record SessionExported (text : List ℕ) (before after : Memory) (ran : Bool) : Type 0 where
   pub short : length (before .result) < sessionSize → (ran ≡ false) × (after ≡ before)
-  pub done : sessionSize ≤ length (before .result) → (ran ≡ true) × SessionOutcome text before after
+  pub long : sessionSize ≤ length (before .result) → (ran ≡ true) × SessionOutcome text before after
 
 -- the same of a verdict
 pub record VerdictExported (text : List ℕ) (before after : Memory) (ran : Bool) : Type 0 where
   pub short : length (before .result) < verdictSize → (ran ≡ false) × (after ≡ before)
-  pub done : verdictSize ≤ length (before .result) → (ran ≡ true) × VerdictOutcome text before after
+  pub long : verdictSize ≤ length (before .result) → (ran ≡ true) × VerdictOutcome text before after

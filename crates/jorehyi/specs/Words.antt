@@ -6,8 +6,8 @@ use Prim.Native.Nat.{ℕ, zero, suc, _+_, _*_, _≤_}
 use lib.ListN.{length, getD}
 use Rattle.diagram.specs.Registers.{occupied, emptyRegister}
 use Rattle.diagram.specs.declared.registers.Register.{Register}
-use Rattle.text.specs.Print.{Wrote}
-use Rattle.text.specs.declared.progress.Session.{Session}
+use Rattle.text.specs.Print.{WriteEnsures}
+use Rattle.text.specs.declared.progress.SessionResult.{SessionResult}
 use Rattle.text.specs.declared.ruling.VerdictResult.{VerdictResult}
 
 -- how many words a register, the sixteen registers, a session and a verdict have
@@ -33,7 +33,7 @@ registersWords zero rs = []
 registersWords (suc i) rs = registersWords i rs ++ registerWords (getD rs i emptyRegister)
 
 -- "the code (0 or 9), lines answered, bytes written, the node count and the sixteen registers"
-unfoldable pub sessionWords : Session → List ℕ
+unfoldable pub sessionWords : SessionResult → List ℕ
 sessionWords s = s .code ∷ s .lines ∷ s .bytes ∷ s .count ∷ registersWords 16 (s .registers .all)
 
 -- "The result is code and bytes written"
@@ -45,6 +45,6 @@ verdictWords v = v .code ∷ v .bytes ∷ []
 -- the loop over the registers: the first i are put, and e is the place after them
 pub record RegistersLoop (l : List ℕ) (at : ℕ) (rs : List Register) (l' : List ℕ) (i e : ℕ) : Type 0 where
   pub within : i ≤ 16
-  pub wrote : Wrote l at (registersWords i rs) l' e
+  pub wrote : WriteEnsures l at (registersWords i rs) l' e
   pub length : length l' ≡ length l
   pub place : e ≡ at + registerSize * i

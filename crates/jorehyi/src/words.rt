@@ -1,7 +1,7 @@
 // A result as words at the front of a lent slice.
 use diagram::registers::Register;
 use diagram::registers::Registers;
-use text::progress::Session;
+use text::progress::SessionResult;
 use text::ruling::VerdictResult;
 ghost use mathlib.Core.Path.{_≡_};
 ghost use mathlib.Core.Bool.{cond};
@@ -9,7 +9,7 @@ ghost use mathlib.Core.List.{_∷_, []};
 ghost use lib.Dec.{eqb};
 ghost use Prim.Native.Nat.{_+_, _≤_};
 ghost use lib.ListN.{length};
-ghost use Rattle.text.specs.Print.{written, Wrote};
+ghost use Rattle.text.specs.Print.{written, WriteEnsures};
 ghost use Rattle.jorehyi.specs.Words.{registerWords, registersWords, sessionWords, verdictWords};
 ghost use Rattle.jorehyi.specs.Words.{registerSize, registersSize, sessionSize, verdictSize};
 
@@ -22,7 +22,7 @@ pub const VERDICT_SIZE: usize = 2;
 // Puts a word at a place, and answers the place after it.
 fn put_word(out: &mut [u64], at: usize, v: u64) -> usize
     requires { ⌜ at + 1 ≤ length (now out) ⌝ }
-    ensures { λ r. ⌜ Wrote (now (out .entry)) at (v ∷ []) (now (out .exit)) r ⌝ }
+    ensures { λ r. ⌜ WriteEnsures (now (out .entry)) at (v ∷ []) (now (out .exit)) r ⌝ }
 {
     out[at] = v;
     at + 1
@@ -30,7 +30,7 @@ fn put_word(out: &mut [u64], at: usize, v: u64) -> usize
 
 fn put_number(out: &mut [u64], at: usize, n: usize) -> usize
     requires { ⌜ at + 1 ≤ length (now out) ⌝ }
-    ensures { λ r. ⌜ Wrote (now (out .entry)) at (n ∷ []) (now (out .exit)) r ⌝ }
+    ensures { λ r. ⌜ WriteEnsures (now (out .entry)) at (n ∷ []) (now (out .exit)) r ⌝ }
 {
     put_word(out, at, n as u64)
 }
@@ -44,7 +44,7 @@ fn flag(filled: u64) -> u64
 
 fn put_register(out: &mut [u64], at: usize, r: Register) -> usize
     requires { ⌜ at + registerSize ≤ length (now out) ⌝ }
-    ensures { λ e. ⌜ Wrote (now (out .entry)) at (registerWords r) (now (out .exit)) e ⌝ }
+    ensures { λ e. ⌜ WriteEnsures (now (out .entry)) at (registerWords r) (now (out .exit)) e ⌝ }
 {
     let filled = flag(r.filled);
     let a = put_word(out, at, filled);
@@ -54,7 +54,7 @@ fn put_register(out: &mut [u64], at: usize, r: Register) -> usize
 
 fn put_registers(out: &mut [u64], at: usize, rs: Registers) -> usize
     requires { ⌜ at + registersSize ≤ length (now out) ⌝ }
-    ensures { λ e. ⌜ Wrote (now (out .entry)) at (registersWords 16 (rs .all)) (now (out .exit)) e ⌝ }
+    ensures { λ e. ⌜ WriteEnsures (now (out .entry)) at (registersWords 16 (rs .all)) (now (out .exit)) e ⌝ }
 {
     let mut i = 0;
     let mut e = at;
@@ -67,7 +67,7 @@ fn put_registers(out: &mut [u64], at: usize, rs: Registers) -> usize
 }
 
 // Code, lines, bytes, node count, then each register's words.
-pub fn put_session(out: &mut [u64], s: Session)
+pub fn put_session(out: &mut [u64], s: SessionResult)
     requires { ⌜ sessionSize ≤ length (now out) ⌝ }
     ensures { λ _. ⌜ now (out .exit) ≡ written (now (out .entry)) 0 (sessionWords s) ⌝ }
 {

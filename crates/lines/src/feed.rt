@@ -5,9 +5,10 @@ use text::squeeze::Squeeze;
 ghost use Prim.Native.Nat.{_≤_};
 ghost use lib.ListN.{length};
 ghost use Rattle.text.specs.Squeeze.{SqueezeFits};
+ghost use Rattle.text.specs.Limits.{lineRoom};
 
 fn end(line: &[u8], squeeze: Squeeze)
-    requires { ⌜ (64 ≤ length (now line)) × SqueezeFits squeeze ⌝ }
+    requires { ⌜ (lineRoom ≤ length (now line)) × SqueezeFits squeeze ⌝ }
 {
     let a = 0;
     let e = squeeze.length;
@@ -15,7 +16,7 @@ fn end(line: &[u8], squeeze: Squeeze)
 }
 
 fn step(line: &mut [u8], squeeze: Squeeze, b: u8) -> Squeeze
-    requires { ⌜ (64 ≤ length (now line)) × SqueezeFits squeeze ⌝ }
+    requires { ⌜ (lineRoom ≤ length (now line)) × SqueezeFits squeeze ⌝ }
     ensures { λ r. ⌜ SqueezeFits r ⌝ }
 {
     if b == b'\n' {
@@ -27,7 +28,7 @@ fn step(line: &mut [u8], squeeze: Squeeze, b: u8) -> Squeeze
 
 // The bytes that come next.
 pub fn feed(line: &mut [u8], squeeze: Squeeze, part: &[u8]) -> Squeeze
-    requires { ⌜ (64 ≤ length (now line)) × SqueezeFits squeeze ⌝ }
+    requires { ⌜ (lineRoom ≤ length (now line)) × SqueezeFits squeeze ⌝ }
     ensures { λ r. ⌜ SqueezeFits r ⌝ }
 {
     let mut next = squeeze;
@@ -41,7 +42,7 @@ pub fn feed(line: &mut [u8], squeeze: Squeeze, part: &[u8]) -> Squeeze
 
 // "a last part without LF counts unless empty"; of a line that has a byte, one is kept.
 pub fn last(line: &[u8], squeeze: Squeeze)
-    requires { ⌜ (64 ≤ length (now line)) × SqueezeFits squeeze ⌝ }
+    requires { ⌜ (lineRoom ≤ length (now line)) × SqueezeFits squeeze ⌝ }
 {
     if 0 < squeeze.length {
         end(line, squeeze);

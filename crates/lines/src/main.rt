@@ -3,11 +3,13 @@ mod feed;
 mod show;
 
 use libc::STDIN_FILENO;
+use text::limits::LINE_ROOM;
 use text::squeeze;
 use text::squeeze::Squeeze;
 ghost use Prim.Native.Nat.{_≤_};
 ghost use lib.ListN.{length};
 ghost use Rattle.text.specs.Squeeze.{SqueezeFits};
+ghost use Rattle.text.specs.Limits.{lineRoom};
 
 // The line that a read ends in, and whether the read brought bytes.
 struct AfterRead {
@@ -17,7 +19,7 @@ struct AfterRead {
 
 // Reads once, shows the lines that end in what came, and answers the line that it ends in.
 fn read(line: &mut [u8], part: &mut [u8], squeeze: Squeeze) -> AfterRead
-    requires { ⌜ (64 ≤ length (now line)) × SqueezeFits squeeze ⌝ }
+    requires { ⌜ (lineRoom ≤ length (now line)) × SqueezeFits squeeze ⌝ }
     ensures { λ r. ⌜ SqueezeFits (r .squeeze) ⌝ }
 {
     let got = libc::read(STDIN_FILENO, part);
@@ -29,7 +31,7 @@ fn read(line: &mut [u8], part: &mut [u8], squeeze: Squeeze) -> AfterRead
 
 // A proved loop has to end, and nothing says that an input does. So it counts down from a number that no run uses up.
 fn main() {
-    let mut line = [0u8; 64];
+    let mut line = [0u8; LINE_ROOM];
     let mut part = io::buffer();
     let squeeze = squeeze::none();
     let mut after = AfterRead {

@@ -5,7 +5,7 @@ use Prim.Native.Nat.{ℕ}
 use Prim.Native.String.{String}
 use Rattle.field.specs.Weight.{Weight, toWeight, timesW, eighthRoot, imaginaryUnit, rootTwo, inverseRootTwo}
 use Rattle.text.specs.Text.{bytes}
-use Rattle.text.specs.Session.{most, session}
+use Rattle.text.specs.Session.{atMost, session}
 use Rattle.text.specs.VerdictSession.{verdictResult}
 
 -- a named weight and its number; a product of two weights, by their numbers; a session over a store of some capacity,
@@ -17,15 +17,15 @@ pub data Case : Type 0 where
   verdict-prints : ℕ → String → String → Case
 
 -- what a case says with d indices: all output fits
-abbrev pub Says : ℕ → Case → Type 0
-Says d (constant-is w n) = w .number ≡ n
-Says d (product-is a b c) = timesW (toWeight a) (toWeight b) .number ≡ c
-Says d (session-prints capacity text out) = session d (most capacity) 4096 (bytes text) .output ≡ bytes out
-Says d (verdict-prints capacity text out) = verdictResult d (most capacity) 32 (bytes text) ≡ (0, bytes out)
+abbrev pub CaseHolds : ℕ → Case → Type 0
+CaseHolds d (constant-is w n) = w .number ≡ n
+CaseHolds d (product-is a b c) = timesW (toWeight a) (toWeight b) .number ≡ c
+CaseHolds d (session-prints capacity text out) = session d (atMost capacity) 4096 (bytes text) .output ≡ bytes out
+CaseHolds d (verdict-prints capacity text out) = verdictResult d (atMost capacity) 32 (bytes text) ≡ (0, bytes out)
 
-abbrev pub AllSay : ℕ → List Case → Type 0
-AllSay d [] = Unit {0}
-AllSay d (c ∷ cs) = Says d c × AllSay d cs
+abbrev pub AllHold : ℕ → List Case → Type 0
+AllHold d [] = Unit {0}
+AllHold d (c ∷ cs) = CaseHolds d c × AllHold d cs
 
 abbrev pub table : List Case
 table =

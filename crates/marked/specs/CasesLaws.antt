@@ -31,11 +31,12 @@ use Rattle.diagram.specs.Tensor.{indices}
 use Rattle.diagram.specs.TestLaws.{and-left, and-right}
 use Rattle.diagram.specs.GrowLaws.{indices-deeper}
 use Rattle.text.specs.Text.{bytes, lines}
-use Rattle.text.specs.Session.{most, TallyRun}
+use Rattle.text.specs.Session.{atMost, TallyRun}
 use Rattle.text.specs.Check.{readText}
 use Rattle.text.specs.GrowSession.{linesTouch, readingTouches, growRun}
 use Rattle.text.specs.GrowSessionLaws.{session-grows, verdict-result-grows}
-use Rattle.marked.specs.Cases.{Case, constant-is, product-is, session-prints, verdict-prints, Says, AllSay, table}
+use Rattle.marked.specs.Cases.{Case, constant-is, product-is, session-prints, verdict-prints, CaseHolds}
+use Rattle.marked.specs.Cases.{AllHold, table}
 
 -- does a case touch only the lowest d indices?
 unfoldable touching : ℕ → Case → Bool
@@ -49,12 +50,12 @@ allTouching d [] = true
 allTouching d (c ∷ cs) = touching d c && allTouching d cs
 
 -- computed with 3 indices
-with-three : AllSay 3 table × (allTouching 3 table ≡ true)
+with-three : AllHold 3 table × (allTouching 3 table ≡ true)
 unfolding touching allTouching growSession.qubitsBelow growSession.touches growSession.allTouch growSession.linesTouch
-    growSession.readingTouches text.sameBytes text.onto text.parts text.lines text.fields number.digit
+    growSession.readingTouches text.sameBytes text.onto text.parts text.lines text.fields number.isDigit
     number.digitsFrom number.needless number.numberOf names.chooseName names.oneQubit names.twoQubits words.wordOf
     args.numbers args.byCount call.checkRegister call.checkRange call.checkApart call.callOf textGate.gateCallFields
-    line.callFields line.readLine print.digits print.decimal answer.answerLine answer.printed check.headerNumbers
+    line.callFields line.readLine print.digits print.decimal answer.lineOfFields answer.printed check.headerNumbers
     check.headerFields check.headerOf check.ensured check.gateItemOf check.gateItemFields check.itemOf check.withFirst
     check.withSecond check.secondItem check.secondList check.firstItem check.firstList check.afterHeader
     check.readLines check.readText ruling.printedRuling session.emptyTally session.nodeCount session.refuse
@@ -67,8 +68,8 @@ unfolding touching allTouching growSession.qubitsBelow growSession.touches growS
     tensor.joined tensor.scale tensor.normal tensor.multiple tensor.plus tensor.top2 tensor.times tensor.members
     tensor.power2 tensor.assign tally.return tally._>>=_ tally.member tally.put tally.joinCases tally.join tally.both
     tally.sumCases tally.sumBody tally.sum tally.contCases tally.contBody tally.cont tally.halves tally.lowAt
-    tally.lowCases tally.lowBody tally.low tally.buildCases tally.buildBody tally.build tally.fixBoth tally.fixed
-    tally.normalAt tally.normals tally.keeps tally.within tally.collect tally.filled diagramGate.matrix
+    tally.lowCases tally.lowBody tally.low tally.buildCases tally.buildBody tally.build tally.fixBoth
+    tally.cofactorsBelow tally.normalAt tally.normals tally.keeps tally.keepOnly tally.collect tally.filledTensors diagramGate.matrix
     diagramGate.onQubit diagramGate.entry diagramGate.gateTensor diagramGate.straight diagramGate.unitEntry
     diagramGate.unitTensor tabulate.tabulate descend.descendF descend.descend descend.topMeasure descend.onTop
     descend.onTop2 compare.ratio compare.compared weight.toWeight weight.0W weight.1W weight.plusW weight.timesW
@@ -80,21 +81,22 @@ with-three = (
 )
 
 -- a case that touches only the lowest 3 indices says the same with the engine's 24
-carried : (c : Case) → touching 3 c ≡ true → Says 3 c → Says indices c
+carried : (c : Case) → touching 3 c ≡ true → CaseHolds 3 c → CaseHolds indices c
 unfolding touching growRun
 carried (constant-is w n) e h = h
 carried (product-is a b c) e h = h
 carried (session-prints capacity text out) e h =
-    rw indices-deeper (ap (λ (r : TallyRun _). r .output) (session-grows 3 21 (most capacity) 4096 (bytes text) e) ∙ h)
+    rw indices-deeper (ap (λ (r : TallyRun _). r .output) (session-grows 3 21 (atMost capacity) 4096 (bytes text) e)
+    ∙ h)
 carried (verdict-prints capacity text out) e h =
-    rw indices-deeper (verdict-result-grows 3 21 (most capacity) 32 (bytes text) e ∙ h)
+    rw indices-deeper (verdict-result-grows 3 21 (atMost capacity) 32 (bytes text) e ∙ h)
 
-carried-all : (cs : List Case) → allTouching 3 cs ≡ true → AllSay 3 cs → AllSay indices cs
+carried-all : (cs : List Case) → allTouching 3 cs ≡ true → AllHold 3 cs → AllHold indices cs
 unfolding allTouching
 carried-all [] e h = tt
 carried-all (c ∷ cs) e h =
     (carried c (and-left _ _ e) (h .0), carried-all cs (and-right (touching 3 c) (allTouching 3 cs) e) (h .1))
 
 -- Document 01's marked cases a to k, and its session printed whole, bytes for bytes.
-pub marked : AllSay indices table
+pub marked : AllHold indices table
 marked = carried-all table (with-three .1) (with-three .0)

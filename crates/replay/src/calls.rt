@@ -9,7 +9,7 @@ use diagram::lower;
 use diagram::make::State;
 use diagram::node::Edge;
 use diagram::registers;
-use diagram::registers::Held;
+use diagram::registers::RegisterContent;
 use diagram::registers::Registers;
 use diagram::restore;
 use diagram::unit;
@@ -77,10 +77,10 @@ pub fn cont(store: &mut [u8], cache: &mut [u64], run: Run, d: usize, m: u64) -> 
     requires { ⌜ Invariant (now cache) (now store) (run .state) (run .registers .all) × ((d < 16) × (m < masks)) ⌝ }
     ensures { λ r. ⌜ Invariant (now (cache .exit)) (now (store .exit)) (r .state) (r .registers .all) ⌝ }
 {
-    let Held::Edge(a) = registers::get(run.registers, 0) else {
+    let RegisterContent::Edge(a) = registers::get(run.registers, 0) else {
         return run;
     };
-    let Held::Edge(b) = registers::get(run.registers, 1) else {
+    let RegisterContent::Edge(b) = registers::get(run.registers, 1) else {
         return run;
     };
     multiply(store, cache, run, d, a, b, m)
@@ -130,7 +130,7 @@ pub fn low(store: &mut [u8], cache: &mut [u64], run: Run, k: usize) -> Run
     requires { ⌜ Invariant (now cache) (now store) (run .state) (run .registers .all) × ((1 ≤ k) × (k ≤ 23)) ⌝ }
     ensures { λ r. ⌜ Invariant (now (cache .exit)) (now (store .exit)) (r .state) (r .registers .all) ⌝ }
 {
-    let Held::Edge(a) = registers::get(run.registers, 0) else {
+    let RegisterContent::Edge(a) = registers::get(run.registers, 0) else {
         return run;
     };
     let j = k - 1;

@@ -13,7 +13,7 @@ ghost use Rattle.diagram.specs.Entry.{QubitsInRange};
 ghost use Rattle.diagram.specs.Invariant.{Invariant};
 
 // The gate, contracted over the indices of m; register 1 has held it.
-fn contracted(store: &mut [u8], cache: &mut [u64], run: Run, g: Gate, m: u64) -> Run
+fn contract_gate(store: &mut [u8], cache: &mut [u64], run: Run, g: Gate, m: u64) -> Run
     requires { ⌜ Invariant (now cache) (now store) (run .state) (run .registers .all)
         × (QubitsInRange g × (m < masks)) ⌝ }
     ensures { λ r. ⌜ Invariant (now (cache .exit)) (now (store .exit)) (r .state) (r .registers .all) ⌝ }
@@ -31,7 +31,7 @@ fn single(store: &mut [u8], cache: &mut [u64], run: Run, g: Gate, j: usize, m: u
         × (QubitsInRange g × ((j < 23) × (m < masks))) ⌝ }
     ensures { λ r. ⌜ Invariant (now (cache .exit)) (now (store .exit)) (r .state) (r .registers .all) ⌝ }
 {
-    let one = contracted(store, cache, run, g, m);
+    let one = contract_gate(store, cache, run, g, m);
     let two = calls::low(store, cache, one, j + 1);
     let last = calls::tidy(store, cache, two, true);
     show::count(last);
@@ -55,12 +55,12 @@ fn first(store: &mut [u8], cache: &mut [u64], run: Run, g: Gate, j: usize, m: u6
         × (QubitsInRange g × ((j < 23) × (m < masks))) ⌝ }
     ensures { λ r. ⌜ Invariant (now (cache .exit)) (now (store .exit)) (r .state) (r .registers .all) ⌝ }
 {
-    let one = contracted(store, cache, run, g, m);
+    let one = contract_gate(store, cache, run, g, m);
     calls::low(store, cache, one, j + 1)
 }
 
-// CX on neighbouring qubits q and q + 1, the first of which has the middle j.
-fn entangle(store: &mut [u8], cache: &mut [u64], run: Run, q: usize) -> Run
+// CX on neighbouring qubits q and q + 1.
+fn cx_to_next(store: &mut [u8], cache: &mut [u64], run: Run, q: usize) -> Run
     requires { ⌜ Invariant (now cache) (now store) (run .state) (run .registers .all) × (q < 7) ⌝ }
     ensures { λ r. ⌜ Invariant (now (cache .exit)) (now (store .exit)) (r .state) (r .registers .all) ⌝ }
 {
@@ -94,14 +94,14 @@ fn chain(store: &mut [u8], cache: &mut [u64], run: Run) -> Run
     let mut r = run;
     let mut q = 0;
     while q < 7 {
-        r = entangle(store, cache, r, q);
+        r = cx_to_next(store, cache, r, q);
         q += 1;
     }
     r
 }
 
 // H on qubit 0, then the chain.
-fn entangled(store: &mut [u8], cache: &mut [u64], run: Run) -> Run
+fn h_and_chain(store: &mut [u8], cache: &mut [u64], run: Run) -> Run
     requires { ⌜ Invariant (now cache) (now store) (run .state) (run .registers .all) ⌝ }
     ensures { λ r. ⌜ Invariant (now (cache .exit)) (now (store .exit)) (r .state) (r .registers .all) ⌝ }
 {
@@ -110,7 +110,7 @@ fn entangled(store: &mut [u8], cache: &mut [u64], run: Run) -> Run
 }
 
 // T on qubit 3, S on 5.
-fn turned(store: &mut [u8], cache: &mut [u64], run: Run) -> Run
+fn t_and_s(store: &mut [u8], cache: &mut [u64], run: Run) -> Run
     requires { ⌜ Invariant (now cache) (now store) (run .state) (run .registers .all) ⌝ }
     ensures { λ r. ⌜ Invariant (now (cache .exit)) (now (store .exit)) (r .state) (r .registers .all) ⌝ }
 {
@@ -119,7 +119,7 @@ fn turned(store: &mut [u8], cache: &mut [u64], run: Run) -> Run
 }
 
 // SW on qubits 2 and 6.
-fn swapped(store: &mut [u8], cache: &mut [u64], run: Run) -> Run
+fn swap_2_6(store: &mut [u8], cache: &mut [u64], run: Run) -> Run
     requires { ⌜ Invariant (now cache) (now store) (run .state) (run .registers .all) ⌝ }
     ensures { λ r. ⌜ Invariant (now (cache .exit)) (now (store .exit)) (r .state) (r .registers .all) ⌝ }
 {
@@ -128,7 +128,7 @@ fn swapped(store: &mut [u8], cache: &mut [u64], run: Run) -> Run
 }
 
 // CZ on qubits 1 and 4.
-fn signed(store: &mut [u8], cache: &mut [u64], run: Run) -> Run
+fn cz_1_4(store: &mut [u8], cache: &mut [u64], run: Run) -> Run
     requires { ⌜ Invariant (now cache) (now store) (run .state) (run .registers .all) ⌝ }
     ensures { λ r. ⌜ Invariant (now (cache .exit)) (now (store .exit)) (r .state) (r .registers .all) ⌝ }
 {
@@ -137,29 +137,29 @@ fn signed(store: &mut [u8], cache: &mut [u64], run: Run) -> Run
 }
 
 // Then H on qubit 7.
-fn ending(store: &mut [u8], cache: &mut [u64], run: Run) -> Run
+fn last_gates(store: &mut [u8], cache: &mut [u64], run: Run) -> Run
     requires { ⌜ Invariant (now cache) (now store) (run .state) (run .registers .all) ⌝ }
     ensures { λ r. ⌜ Invariant (now (cache .exit)) (now (store .exit)) (r .state) (r .registers .all) ⌝ }
 {
-    let a = signed(store, cache, run);
+    let a = cz_1_4(store, cache, run);
     single(store, cache, a, Gate::H(7), 22, 4194304)
 }
 
-fn middle(store: &mut [u8], cache: &mut [u64], run: Run) -> Run
+fn middle_gates(store: &mut [u8], cache: &mut [u64], run: Run) -> Run
     requires { ⌜ Invariant (now cache) (now store) (run .state) (run .registers .all) ⌝ }
     ensures { λ r. ⌜ Invariant (now (cache .exit)) (now (store .exit)) (r .state) (r .registers .all) ⌝ }
 {
-    let a = turned(store, cache, run);
-    swapped(store, cache, a)
+    let a = t_and_s(store, cache, run);
+    swap_2_6(store, cache, a)
 }
 
 fn gates(store: &mut [u8], cache: &mut [u64], run: Run) -> Run
     requires { ⌜ Invariant (now cache) (now store) (run .state) (run .registers .all) ⌝ }
     ensures { λ r. ⌜ Invariant (now (cache .exit)) (now (store .exit)) (r .state) (r .registers .all) ⌝ }
 {
-    let a = entangled(store, cache, run);
-    let b = middle(store, cache, a);
-    ending(store, cache, b)
+    let a = h_and_chain(store, cache, run);
+    let b = middle_gates(store, cache, a);
+    last_gates(store, cache, b)
 }
 
 fn from_unit(store: &mut [u8], cache: &mut [u64], run: Run)

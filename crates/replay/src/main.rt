@@ -21,7 +21,7 @@ use diagram::registers;
 use diagram::restore;
 ghost use mathlib.Core.Path.{_≡_};
 ghost use Rattle.diagram.specs.Registers.{RegistersValid};
-ghost use Rattle.diagram.specs.Engine.{Sound};
+ghost use Rattle.diagram.specs.Store.{Sound};
 ghost use Rattle.diagram.specs.Invariant.{Invariant};
 ghost use Rattle.diagram.specs.Entry.{QubitsInRange};
 ghost use Rattle.replay.specs.Replay.{cleared};

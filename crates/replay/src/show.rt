@@ -3,12 +3,12 @@ use crate::calls::Run;
 use diagram::make::State;
 use diagram::node::Edge;
 use diagram::registers;
-use diagram::registers::Held;
+use diagram::registers::RegisterContent;
 use diagram::value;
 ghost use Prim.Native.Nat.{_<_};
 ghost use Rattle.diagram.specs.Meaning.{Valid};
 ghost use Rattle.diagram.specs.Registers.{RegistersValid};
-ghost use Rattle.diagram.specs.Engine.{Sound};
+ghost use Rattle.diagram.specs.Store.{Sound};
 
 fn number(before: &[u8], n: u64) {
     io::write_all(1, before);
@@ -43,7 +43,7 @@ pub fn register(store: &[u8], run: Run, i: usize)
         × (RegistersValid (run .state .count) (run .registers .all) × (i < 16)) ⌝ }
 {
     let s = run.state;
-    let Held::Edge(e) = registers::get(run.registers, i) else {
+    let RegisterContent::Edge(e) = registers::get(run.registers, i) else {
         return;
     };
     line(store, s, e);
@@ -59,7 +59,7 @@ pub fn values(store: &[u8], run: Run)
     requires { ⌜ Sound (now store) (run .state) × RegistersValid (run .state .count) (run .registers .all) ⌝ }
 {
     let s = run.state;
-    let Held::Edge(e) = registers::get(run.registers, 0) else {
+    let RegisterContent::Edge(e) = registers::get(run.registers, 0) else {
         return;
     };
     io::write_all(1, b"values");

@@ -2,7 +2,7 @@
 use crate::header;
 use crate::header::Header;
 use libc::STDOUT_FILENO;
-use text::progress::Session;
+use text::progress::SessionResult;
 use text::session;
 use text::split;
 
@@ -15,7 +15,7 @@ fn number(n: usize) {
     io::print_decimal(STDOUT_FILENO, n as u64);
 }
 
-fn report(r: Session) {
+fn report(r: SessionResult) {
     word(b"=");
     number(r.code);
     number(r.lines);

@@ -10,12 +10,13 @@ use Rattle.diagram.specs.Invariant.{Invariant}
 use Rattle.text.specs.Text.{Bytes, LF}
 use Rattle.text.specs.Line.{readLine}
 use Rattle.text.specs.Answer.{printed}
-use Rattle.text.specs.Session.{most, TallyReply, answer}
+use Rattle.text.specs.Session.{atMost, TallyReply, answer}
 use Rattle.text.specs.Squeeze.{SqueezeFits, SqueezeInvariant}
 use Rattle.text.specs.Engine.{tallyOf}
 use Rattle.text.specs.declared.engine.Engine.{Engine}
 use Rattle.text.specs.declared.progress.Progress.{Progress}
 use Rattle.text.specs.declared.squeeze.Squeeze.{Squeeze}
+use Rattle.text.specs.Limits.{lineRoom}
 
 -- the session's memory: the buffer of the line that comes, the cache's words, the store's bytes
 pub record Memory : Type 0 where
@@ -28,7 +29,7 @@ memory line c s = record { line = line; cache = c; store = s }
 
 -- a line in the buffer, and an engine to answer it
 pub record AnswerRequires (m : Memory) (q : Squeeze) (e : Engine) : Type 0 where
-  pub room : 64 ≤ length (m .line)
+  pub room : lineRoom ≤ length (m .line)
   pub fits : SqueezeFits q
   pub invariant : Invariant (m .cache) (m .store) (e .state) (e .registers .all)
 
@@ -39,7 +40,7 @@ pub data NoLF : Bytes → Type 0 where
 
 -- what the tally that the engine holds answers to a line, and the tally after it
 abbrev pub replyTo : Bytes → List ℕ → Engine → TallyReply indices
-replyTo seen s e = answer (most (capacity s)) (readLine seen) (tallyOf s e)
+replyTo seen s e = answer (atMost (capacity s)) (readLine seen) (tallyOf s e)
 
 -- Whatever line was squeezed into the buffer, the engine holds the tally after it.
 pub record AnswerEnsures (m : Memory) (q : Squeeze) (e : Engine) (m' : Memory) (r : Engine) : Type 0 where

@@ -13,7 +13,7 @@ use Rattle.diagram.specs.Tensor.{indices}
 use Rattle.diagram.specs.Node.{capacity}
 use Rattle.text.specs.Text.{Bytes, LF, tab, onto, parts, lines}
 use Rattle.text.specs.Answer.{printed}
-use Rattle.text.specs.Session.{most, TallyRun, withAnswer, run}
+use Rattle.text.specs.Session.{atMost, TallyRun, withAnswer, run}
 use Rattle.text.specs.Squeeze.{squeezedFrom, squeezed, SqueezeFits, SqueezeInvariant}
 use Rattle.text.specs.Engine.{tallyOf}
 use Rattle.text.specs.Progress.{runFrom, ResumeEnsures}
@@ -23,6 +23,7 @@ use Rattle.text.specs.declared.engine.Engine.{Engine}
 use Rattle.text.specs.declared.progress.Progress.{Progress}
 use Rattle.text.specs.declared.squeeze.Squeeze.{Squeeze}
 use Rattle.session.specs.Answer.{memory, NoLF, none, byte, replyTo, ReplyEnsures}
+use Rattle.text.specs.Limits.{lineRoom, answerRoom}
 
 no-LF-either : (b : Bool) {s t : Bytes} → NoLF s → NoLF t → NoLF (cond b s t)
 no-LF-either true p q = p
@@ -43,7 +44,7 @@ line-first rest none = refl
 line-first rest (byte {x} h u) = rw (ne-eqb x LF h, line-first rest u)
 
 module _ {line : Bytes} {q : Squeeze} {e : Engine} {s c' s' o o' : List ℕ} {r : Progress}
-    (h : 64 ≤ length line) (f : SqueezeFits q) (w : 16 ≤ length o)
+    (h : lineRoom ≤ length line) (f : SqueezeFits q) (w : answerRoom ≤ length o)
     (m : ResumeEnsures (take (q .length + 1) (set line (q .length) LF)) 1 e s c' s' o o' r) where
   module _ (seen : Bytes) (u : NoLF seen) (k : SqueezeInvariant seen line q) where
     one-line : lines (take (q .length + 1) (set line (q .length) LF)) ≡ squeezed seen ∷ []
@@ -52,11 +53,11 @@ module _ {line : Bytes} {q : Squeeze} {e : Engine} {s c' s' o o' : List ℕ} {r 
         rw (add-one (q .length), take-suc-set line (q .length) LF (omega arith), k .kept)
         (line-first [] (no-LF-squeezed 0 0 u))
 
-    one-run : run (most (capacity s)) (length o) (take 1 (lines (take (q .length + 1) (set line (q .length) LF))))
+    one-run : run (atMost (capacity s)) (length o) (take 1 (lines (take (q .length + 1) (set line (q .length) LF))))
         (runFrom (tallyOf s e))
         ≡ withAnswer (runFrom (tallyOf s e)) (replyTo seen s e)
     unfolding run runFrom
-    one-run = rw (one-line, le-leb 16 (length o) w, readLine-squeezed seen)
+    one-run = rw (one-line, le-leb answerRoom (length o) w, readLine-squeezed seen)
 
     reply-answer : take (r .bytes) o' ≡ printed (replyTo seen s e .0)
     unfolding withAnswer runFrom

@@ -7,7 +7,7 @@ use Prim.Native.Nat.{ℕ, _+_, _≤_, _<_}
 use lib.ListN.{length, take}
 use Rattle.diagram.specs.Node.{capacity}
 use Rattle.text.specs.Text.{Bytes, lines}
-use Rattle.text.specs.Session.{most, emptyRun, run}
+use Rattle.text.specs.Session.{atMost, emptyRun, run}
 use Rattle.text.specs.Squeeze.{SqueezeInvariant}
 use Rattle.text.specs.Engine.{tallyOf}
 use Rattle.text.specs.declared.engine.Engine.{Engine}
@@ -15,12 +15,13 @@ use Rattle.text.specs.declared.squeeze.Squeeze.{Squeeze}
 use Rattle.session.specs.Answer.{Memory, AnswerRequires, NoLF}
 use Rattle.session.specs.declared.answer.LineResult.{LineResult}
 use Rattle.session.specs.declared.feed.SessionState.{SessionState}
+use Rattle.text.specs.Limits.{answerRoom}
 
 -- The engine is where the tally's own run of these lines ends, over every output that has room for their answers:
 -- "Before a line, if fewer than 16 output bytes remain, the run stops with 9", and a program's output has no end.
 pub record AfterLines (ls : List Bytes) (s : List ℕ) (e : Engine) : Type 0 where
   pub output : Bytes
-  pub is : (room : ℕ) → length output + 16 ≤ room → run (most (capacity s)) room ls emptyRun
+  pub is : (room : ℕ) → length output + answerRoom ≤ room → run (atMost (capacity s)) room ls emptyRun
       ≡ record { code = 0; answered = length ls; output = output; tally = tallyOf s e }
 
 -- The text's first lines were run, and no other.

@@ -13,7 +13,7 @@ use lib.Seq.{take-suc, take-all, length-take-le}
 use Rattle.diagram.specs.Node.{capacity}
 use Rattle.text.specs.Text.{Bytes, LF, tab, lines, parts, onto}
 use Rattle.text.specs.Answer.{printed}
-use Rattle.text.specs.Session.{most, emptyRun, withAnswer, run}
+use Rattle.text.specs.Session.{atMost, emptyRun, withAnswer, run}
 use Rattle.text.specs.Squeeze.{squeezedFrom, squeezed, NoneEnsures, PushEnsures}
 use Rattle.text.specs.Engine.{tallyOf, EngineStartEnsures}
 use Rattle.text.specs.SessionLaws.{run-append}
@@ -25,6 +25,7 @@ use Rattle.session.specs.Feed.{AfterLines, AfterFirstLines, AfterLinesBe
 use Rattle.session.specs.Feed.{LastEnsures, FeedLoop}
 use Rattle.session.specs.declared.answer.LineResult.{LineResult}
 use Rattle.session.specs.declared.feed.SessionState.{SessionState}
+use Rattle.text.specs.Limits.{answerRoom}
 
 -- lines
 
@@ -70,11 +71,12 @@ unfolding run withAnswer
 after-more {ls} {s} {s'} {e} {n} l k r t = record {
   output = r .output ++ printed (replyTo l s e .0);
   is = λ room h.
-      let w : length (r .output) + 16 ≤ room = omega (arith, length-append (r .output) (printed (replyTo l s e .0))) in
+      let w : length (r .output) + answerRoom ≤ room = omega
+      (arith, length-append (r .output) (printed (replyTo l s e .0))) in
       rw (
         k,
         t,
-        run-append (most (capacity s)) room ls (l ∷ []) emptyRun,
+        run-append (atMost (capacity s)) room ls (l ∷ []) emptyRun,
         r .is room w,
         le-leb _ _ w,
         length-append ls

@@ -15,17 +15,17 @@ use Rattle.session.specs.declared.feed.SessionState.{SessionState}
 use Rattle.session.specs.declared.input.AfterRead.{AfterRead}
 
 -- the bytes that came were taken in, all and in order
-pub record TakeEnsures (came : ReadResult) (part : Bytes) (m : Memory) (h : SessionState) (m' : Memory)
+pub record TakeEnsures (result : ReadResult) (part : Bytes) (m : Memory) (h : SessionState) (m' : Memory)
     (r : AfterRead) : Type 0 where
-  pub next : r .next ≡ came .next
-  pub feeds : FeedEnsures (take (came .count) part) m h m' (r .state)
+  pub next : r .next ≡ result .next
+  pub feeds : FeedEnsures (take (result .count) part) m h m' (r .state)
 
 -- a read, whatever it answered and put into its buffer
 pub record ReadEnsures (m : Memory) (h : SessionState) (m' : Memory) (r : AfterRead) : Type 0 where
-  pub came : ReadResult
+  pub result : ReadResult
   pub part : Bytes
-  pub possible : PossibleRead (length part) came
-  pub takes : TakeEnsures came part m h m' r
+  pub possible : PossibleRead (length part) result
+  pub takes : TakeEnsures result part m h m' r
 
 -- what holds between two reads: some input was taken in
 pub record InputInvariant (m : Memory) (h : SessionState) : Type 0 where
@@ -34,8 +34,8 @@ pub record InputInvariant (m : Memory) (h : SessionState) : Type 0 where
   pub invariant : FeedInvariant text lines m h
 
 -- only after bytes that came, and where every answer was written, is more read
-abbrev pub goesOn : AfterRead → Bool
-goesOn after = isMore (after .next) && after .state .written
+abbrev pub readsMore : AfterRead → Bool
+readsMore after = isMore (after .next) && after .state .written
 
 -- the memory after a read, what it left, and what it said of what comes next
 pub record Point : Type 0 where
@@ -48,7 +48,7 @@ startingPoint m h = record { memory = m; after = record { state = h; next = More
 
 -- one read more
 pub record ReadStep (a b : Point) : Type 0 where
-  pub goes-on : goesOn (a .after) ≡ true
+  pub reads-more : readsMore (a .after) ≡ true
   pub read : ReadEnsures (a .memory) (a .after .state) (b .memory) (b .after)
 
 -- Read after read, each after one that brought bytes and whose answers were all written.

@@ -1,12 +1,14 @@
 // The answer to one line.
 use libc::STDOUT_FILENO;
 use text::engine::Engine;
+use text::limits::ANSWER_ROOM;
 use text::progress;
 use text::progress::Progress;
 use text::squeeze::Squeeze;
 ghost use Prim.Native.Nat.{_≤_};
 ghost use lib.ListN.{length};
 ghost use Rattle.session.specs.Answer.{memory, AnswerRequires, AnswerEnsures, ReplyEnsures};
+ghost use Rattle.text.specs.Limits.{answerRoom};
 
 // The engine after a line, and whether every answer so far was written.
 pub struct LineResult {
@@ -23,7 +25,8 @@ fn reply(
     squeeze: Squeeze,
     engine: Engine,
 ) -> Progress
-    requires { ⌜ AnswerRequires (memory (now line) (now cache) (now store)) squeeze engine × (16 ≤ length (now out)) ⌝ }
+    requires { ⌜ AnswerRequires (memory (now line) (now cache) (now store)) squeeze engine
+        × (answerRoom ≤ length (now out)) ⌝ }
     ensures { λ r. ⌜ ReplyEnsures (memory (now (line .entry)) (now (cache .entry)) (now (store .entry))) squeeze engine
         (memory (now (line .exit)) (now (cache .exit)) (now (store .exit))) (now (out .exit)) r ⌝ }
 {
@@ -33,7 +36,7 @@ fn reply(
     progress::resume(&line[..e], store, cache, out, 1, engine)
 }
 
-// Runs the line and writes its answer, which 16 bytes hold.
+// Runs the line and writes its answer.
 pub fn answer(
     line: &mut [u8],
     store: &mut [u8],
@@ -45,7 +48,7 @@ pub fn answer(
     ensures { λ r. ⌜ AnswerEnsures (memory (now (line .entry)) (now (cache .entry)) (now (store .entry))) squeeze engine
         (memory (now (line .exit)) (now (cache .exit)) (now (store .exit))) (r .engine) ⌝ }
 {
-    let mut out = [0u8; 16];
+    let mut out = [0u8; ANSWER_ROOM];
     let p = reply(line, store, cache, &mut out, squeeze, engine);
     let a = 0;
     let n = p.bytes;

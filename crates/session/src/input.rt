@@ -8,7 +8,7 @@ ghost use mathlib.Core.Bool.{true};
 ghost use Rattle.io.specs.Counts.{Counts};
 ghost use Rattle.session.specs.Answer.{memory};
 ghost use Rattle.session.specs.Feed.{FeedRequires};
-ghost use Rattle.session.specs.Input.{goesOn, TakeEnsures, ReadEnsures, InputInvariant, ReceiveEnsures};
+ghost use Rattle.session.specs.Input.{readsMore, TakeEnsures, ReadEnsures, InputInvariant, ReceiveEnsures};
 
 // What a read leaves, and what it says of what comes next.
 pub struct AfterRead {
@@ -22,16 +22,16 @@ fn take(
     store: &mut [u8],
     cache: &mut [u64],
     state: SessionState,
-    came: ReadResult,
+    result: ReadResult,
     part: &[u8],
 ) -> AfterRead
-    requires { ⌜ FeedRequires (memory (now line) (now cache) (now store)) state × Counts (came .count) (now part) ⌝ }
-    ensures { λ r. ⌜ TakeEnsures came (now (part .entry))
+    requires { ⌜ FeedRequires (memory (now line) (now cache) (now store)) state × Counts (result .count) (now part) ⌝ }
+    ensures { λ r. ⌜ TakeEnsures result (now (part .entry))
         (memory (now (line .entry)) (now (cache .entry)) (now (store .entry))) state
         (memory (now (line .exit)) (now (cache .exit)) (now (store .exit))) r ⌝ }
 {
-    let n = came.count;
-    let next = came.next;
+    let n = result.count;
+    let next = result.next;
     let state = feed::feed(line, store, cache, state, &part[..n]);
     AfterRead { state, next }
 }
@@ -43,12 +43,12 @@ fn read(line: &mut [u8], store: &mut [u8], cache: &mut [u64], state: SessionStat
         (memory (now (line .exit)) (now (cache .exit)) (now (store .exit))) r ⌝ }
 {
     let mut part = io::buffer();
-    let came = stdin::read(&mut part);
-    take(line, store, cache, state, came, &part)
+    let result = stdin::read(&mut part);
+    take(line, store, cache, state, result, &part)
 }
 
-fn goes_on(after: AfterRead) -> bool
-    ensures { λ r. ⌜ r ≡ goesOn after ⌝ }
+fn reads_more(after: AfterRead) -> bool
+    ensures { λ r. ⌜ r ≡ readsMore after ⌝ }
 {
     let state = after.state;
     let next = after.next;
@@ -78,7 +78,7 @@ pub fn receive(
     let mut turns = u64::MAX;
     while 0 < turns {
         after = read(line, store, cache, after.state);
-        if !goes_on(after) {
+        if !reads_more(after) {
             return after;
         }
         turns -= 1;

@@ -13,6 +13,7 @@ use libc::STDERR_FILENO;
 use outcome::Ending;
 use outcome::Outcome;
 use text::engine;
+use text::limits::LINE_ROOM;
 use text::squeeze;
 ghost use mathlib.Core.Path.{_≡_};
 ghost use mathlib.Core.Bool.{true};
@@ -41,7 +42,7 @@ fn run(store: &mut [u8], cache: &mut [u64]) -> Outcome
     requires { ⌜ capacity (now store) ≡ 2048 ⌝ }
     ensures { λ r. ⌜ SessionEnsures (now (store .exit)) r ⌝ }
 {
-    let mut line = [0u8; 64];
+    let mut line = [0u8; LINE_ROOM];
     let engine = engine::start(store, cache);
     let squeeze = squeeze::none();
     let written = true;

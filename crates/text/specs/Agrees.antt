@@ -20,15 +20,18 @@ use Rattle.text.specs.Print.{written}
 use Rattle.text.specs.Answer.{isNo}
 use Rattle.text.specs.Session.{nodeCount, Tally, TallyRun, Capacity, answer, run}
 use Rattle.diagram.specs.declared.registers.Register.{Register}
-use Rattle.text.specs.declared.progress.Session.{Session}
+use Rattle.text.specs.declared.progress.SessionResult.{SessionResult}
 
 -- the tensors of the nodes from 1 up, read off the store's bytes; node 0 is the constant 1 (tensorAt)
 unfoldable pub nodeTensors : Bytes → ℕ → Set indices
 nodeTensors s nodeCount = tensors indices (listed (nodeAt s) nodeCount)
 
 -- register i of a session's result
-abbrev pub registerAt : Session → ℕ → Register
-registerAt r i = getD (r .registers .all) i emptyRegister
+abbrev pub registerIn : List Register → ℕ → Register
+registerIn rs i = getD rs i emptyRegister
+
+abbrev pub registerAt : SessionResult → ℕ → Register
+registerAt r i = registerIn (r .registers .all) i
 
 -- what the tally holds in register i
 abbrev pub tallyRegister : Tally indices → ℕ → Option (Tensor indices)
@@ -39,8 +42,8 @@ isFilled none = false
 isFilled (some T) = true
 
 -- "agree at every assignment"
-abbrev pub Agree : Tensor indices → Tensor indices → Type 0
-Agree A B = (v : ℕ) → v < 2 ^ indices → value A v ≡ value B v
+abbrev pub AgreeEverywhere : Tensor indices → Tensor indices → Type 0
+AgreeEverywhere A B = (v : ℕ) → v < 2 ^ indices → value A v ≡ value B v
 
 -- Node n of the store s, where ts are the tensors of its nodes from 1 up: "A node has an index, and a weight and a node
 -- number for low and for high."
@@ -59,7 +62,7 @@ pub record IsNode (s : Bytes) (ts : Set indices) (n : ℕ) : Type 0 where
   pub normal : Normal (tensorAt ts n)
 
 -- s is the store and o' the output as the session leaves them, o the output as it was lent
-pub record Agrees (s o o' : Bytes) (r : Session) (t : TallyRun indices) : Type 0 where
+pub record Agrees (s o o' : Bytes) (r : SessionResult) (t : TallyRun indices) : Type 0 where
   -- "The same registers are filled as in document 01's tally of the same lines."
   pub filled : (i : ℕ) → i < registerCount → occupied (registerAt r i) ≡ isFilled (tallyRegister (t .tally) i)
   -- "A register holds a weight and a node number. Zero is weight 0 at node 0.": the weight is below 65537, the node at
@@ -75,7 +78,7 @@ pub record Agrees (s o o' : Bytes) (r : Session) (t : TallyRun indices) : Type 0
   pub same : (i j : ℕ) → i < registerCount → j < registerCount → (A B : Tensor indices)
       → tallyRegister (t .tally) i ≡ some A → tallyRegister (t .tally) j ≡ some B
       → ((registerAt r i .edge .weight ≡ registerAt r j .edge .weight)
-      × (registerAt r i .edge .node ≡ registerAt r j .edge .node)) ↔ Agree A B
+      × (registerAt r i .edge .node ≡ registerAt r j .edge .node)) ↔ AgreeEverywhere A B
   -- "No node's tensor is a multiple of another node's."
   pub multiples : (m n : ℕ) (f : Weight) → m ≤ r .count → n ≤ r .count
       → tensorAt (nodeTensors s (r .count)) m ≡ scale f (tensorAt (nodeTensors s (r .count)) n) → m ≡ n
@@ -106,40 +109,42 @@ pub record Unchanged (s s' : Bytes) (m m' : ℕ) (rs rs' : List Register) : Type
 
 -- One line more of a run: s and r are the store and the result before it, s' and r' after it. The tally before it is t,
 -- the line `line`.
-pub record OneLine (c : Capacity) (line : Bytes) (t : Tally indices) (s s' : Bytes) (r r' : Session) : Type 0 where
-  pub lines : r' .lines ≡ suc (r .lines)
-  pub long : length s' ≡ length s
-  pub refused : isNo (answer c (readLine line) t .0) ≡ true
-      → Unchanged s s' (r .count) (r' .count) (r .registers .all) (r' .registers .all)
+pub record OneLine (c : Capacity) (line : Bytes) (t : Tally indices) (s s' : Bytes) (r r' : SessionResult) : Type 0
+  where
+    pub lines : r' .lines ≡ suc (r .lines)
+    pub long : length s' ≡ length s
+    pub refused : isNo (answer c (readLine line) t .0) ≡ true
+        → Unchanged s s' (r .count) (r' .count) (r .registers .all) (r' .registers .all)
 
 -- "all of this holds at the start and after each line answered": a run of the lines ls, from the store s₀ and the
 -- result r₀ that stand for the tally's t, as the stores, outputs and results that it passes. Each agrees with the
 -- tally's run of exactly the lines answered so far.
-pub data Passes (c : Capacity) (o : Bytes) (ls : List Bytes) (t : TallyRun indices) (s₀ : Bytes) (r₀ : Session) : Bytes
-    → Bytes → Session → Type 0 where
+pub data Passes (c : Capacity) (o : Bytes) (ls : List Bytes) (t : TallyRun indices) (s₀ : Bytes)
+    (r₀ : SessionResult) : Bytes
+    → Bytes → SessionResult → Type 0 where
   start : r₀ .lines ≡ 0 → Agrees s₀ o o r₀ t → Passes c o ls t s₀ r₀ s₀ o r₀
-  line : {s o' : Bytes} {r : Session} {s' o'' : Bytes} {r' : Session} → Passes c o ls t s₀ r₀ s o' r
+  line : {s o' : Bytes} {r : SessionResult} {s' o'' : Bytes} {r' : SessionResult} → Passes c o ls t s₀ r₀ s o' r
       → OneLine c (getD ls (r .lines) []) (run c (length o) (take (r .lines) ls) t .tally) s s' r r'
       → Agrees s' o o'' r' (run c (length o) (take (r' .lines) ls) t) → Passes c o ls t s₀ r₀ s' o'' r'
 
 -- the result before "the run stops with 9", which changes the code alone
-abbrev pub beforeStop : Session → Session
+abbrev pub beforeStop : SessionResult → SessionResult
 beforeStop r = record { code = 0; lines = r .lines; bytes = r .bytes; count = r .count; registers = r .registers }
 
 -- demand 3 of a whole session: at its end, and on the way to that end
 pub record AgreesThroughout (c : Capacity) (ls : List Bytes) (t : TallyRun indices) (s o o' : Bytes)
-    (r : Session) : Type 0 where
+    (r : SessionResult) : Type 0 where
   pub ends : Agrees s o o' r (run c (length o) ls t)
   -- the store and the result at the start
   pub from : Bytes
-  pub first : Session
+  pub first : SessionResult
   pub passes : Passes c o ls t from first s o' (beforeStop r)
 
 -- what a run passes after j lines, and by the line after those (the laws: after-each-line, each-line)
 pub record Point (c : Capacity) (o : Bytes) (ls : List Bytes) (t : TallyRun indices) (j : ℕ) : Type 0 where
   pub store : Bytes
   pub output : Bytes
-  pub result : Session
+  pub result : SessionResult
   pub lines : result .lines ≡ j
   pub agrees : Agrees store o output result (run c (length o) (take j ls) t)
 

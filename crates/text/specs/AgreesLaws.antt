@@ -9,8 +9,8 @@ use native.Mathlib.Omega.{arith}
 use native.Mathlib.Decide.{ℕ-discrete}
 use lib.ListN.{getD, length, take, drop, length-append}
 use lib.Seq.{take-append-seam}
-use Rattle.diagram.specs.Engine.{nodesOf, setOf, tensorOf}
-use Rattle.diagram.specs.EngineLaws.{node-top, node-normal, node-form, node-low, node-high, node-multiple, edge-unique}
+use Rattle.diagram.specs.Store.{nodesOf, setOf, tensorOf}
+use Rattle.diagram.specs.StoreLaws.{node-top, node-normal, node-form, node-low, node-high, node-multiple, edge-unique}
 use Rattle.diagram.specs.Registers.{emptyRegister, occupied, holds, holdsAll}
 use Rattle.diagram.specs.RegistersLaws.{holds-at, register-valid, register-empty}
 use Rattle.diagram.specs.Weights.{Weight, toWeight}
@@ -23,19 +23,17 @@ use Rattle.text.specs.Text.{Bytes}
 use Rattle.text.specs.Limits.{registerCount}
 use Rattle.text.specs.Print.{written}
 use Rattle.text.specs.Session.{TallyRun, Capacity, run}
-use Rattle.text.specs.Agrees.{nodeTensors, isFilled, Agree, IsNode, Agrees, Passes, start, line, Point, Between}
+use Rattle.text.specs.Agrees.{registerIn, nodeTensors, isFilled, AgreeEverywhere, IsNode, Agrees, Passes}
+use Rattle.text.specs.Agrees.{start, line, Point, Between}
 use Rattle.text.specs.Agrees.{AgreesThroughout}
 use Rattle.diagram.specs.declared.make.State.{State}
 use Rattle.diagram.specs.declared.registers.Register.{Register}
 use Rattle.diagram.specs.declared.node.Edge.{Edge}
-use Rattle.text.specs.declared.progress.Session.{Session}
+use Rattle.text.specs.declared.progress.SessionResult.{SessionResult}
 
 pub node-tensors : (s : List ℕ) (st : State) → nodeTensors s (st .count) ≡ setOf s st
 unfolding nodeTensors setOf nodesOf
 node-tensors s st = refl
-
-abbrev registerIn : List Register → ℕ → Register
-registerIn rs i = getD rs i emptyRegister
 
 module _ {c s : List ℕ} {st : State} {rs : List Register} (p : Invariant c s st rs) where
   abbrev register-tensor : ℕ → Option (Tensor indices)
@@ -104,7 +102,7 @@ module _ {c s : List ℕ} {st : State} {rs : List Register} (p : Invariant c s s
   pub same-exactly : (i j : ℕ) → i < registerCount → j < registerCount → (A B : Tensor indices)
       → register-tensor i ≡ some A → register-tensor j ≡ some B
       → ((registerIn rs i .edge .weight ≡ registerIn rs j .edge .weight)
-      × (registerIn rs i .edge .node ≡ registerIn rs j .edge .node)) ↔ Agree A B
+      × (registerIn rs i .edge .node ≡ registerIn rs j .edge .node)) ↔ AgreeEverywhere A B
   same-exactly i j k l A B q r = (
     λ w. agree-exactly A B .0 (sym (is-tensor i k q) ∙ ap (tensorOf s st) (edge-eq (w .0) (w .1)) ∙ is-tensor j l r),
     λ w. one (edge-unique (p .sound) (valid i k q) (valid j l r) (is-tensor i k q ∙ agree-exactly A B .1 w
@@ -122,7 +120,7 @@ module _ {c s : List ℕ} {st : State} {rs : List Register} (p : Invariant c s s
 
 -- what a run prints stands at the front of the output
 
-module _ {s o o' : Bytes} {r : Session} {t : TallyRun indices} (a : Agrees s o o' r t) where
+module _ {s o o' : Bytes} {r : SessionResult} {t : TallyRun indices} (a : Agrees s o o' r t) where
   pub printed-front : take (r .bytes) o' ≡ t .output
   unfolding written
   printed-front = rw (a .bytes, a .printed) (take-append-seam (t .output) (drop (0 + length (t .output)) o))
@@ -134,18 +132,18 @@ module _ {s o o' : Bytes} {r : Session} {t : TallyRun indices} (a : Agrees s o o
 
 -- what a run passes
 
-module _ {c : Capacity} {o : Bytes} {ls : List Bytes} {t : TallyRun indices} {s₀ : Bytes} {r₀ : Session} where
-  pub passes-agrees : {s o' : Bytes} {r : Session} → Passes c o ls t s₀ r₀ s o' r
+module _ {c : Capacity} {o : Bytes} {ls : List Bytes} {t : TallyRun indices} {s₀ : Bytes} {r₀ : SessionResult} where
+  pub passes-agrees : {s o' : Bytes} {r : SessionResult} → Passes c o ls t s₀ r₀ s o' r
       → Agrees s o o' r (run c (length o) (take (r .lines) ls) t)
   unfolding run
   passes-agrees (start z a) = subst (λ n. Agrees s₀ o o r₀ (run c (length o) (take n ls) t)) (sym z) a
   passes-agrees (line b l a) = a
 
-  passes-point : {s o' : Bytes} {r : Session} → Passes c o ls t s₀ r₀ s o' r → Point c o ls t (r .lines)
+  passes-point : {s o' : Bytes} {r : SessionResult} → Passes c o ls t s₀ r₀ s o' r → Point c o ls t (r .lines)
   passes-point {s} {o'} {r} b = record { store = s; output = o'; result = r; lines = refl; agrees = passes-agrees b }
 
   -- "at the start and after each line answered"
-  pub after-each-line : {s o' : Bytes} {r : Session} → Passes c o ls t s₀ r₀ s o' r → (j : ℕ) → j ≤ r .lines
+  pub after-each-line : {s o' : Bytes} {r : SessionResult} → Passes c o ls t s₀ r₀ s o' r → (j : ℕ) → j ≤ r .lines
       → Point c o ls t j
   after-each-line (start z a) j p =
       let e : r₀ .lines ≡ j = omega arith in subst (Point c o ls t) e (passes-point (start z a))
@@ -155,7 +153,7 @@ module _ {c : Capacity} {o : Bytes} {ls : List Bytes} {t : TallyRun indices} {s�
   ]
 
   -- "a refused line changes no register and leaves no new node", for each line that a session answers
-  pub each-line : {s o' : Bytes} {r : Session} → Passes c o ls t s₀ r₀ s o' r → (j : ℕ) → j < r .lines
+  pub each-line : {s o' : Bytes} {r : SessionResult} → Passes c o ls t s₀ r₀ s o' r → (j : ℕ) → j < r .lines
       → Between c o ls t j
   unfolding passes-point
   each-line (start z a) j p = absurd (omega arith)
@@ -174,6 +172,6 @@ module _ {c : Capacity} {o : Bytes} {ls : List Bytes} {t : TallyRun indices} {s�
     | no n ↦ each-line b j (omega (arith, l .lines))
   ]
 
-pub session-within : {c : Capacity} {ls : List Bytes} {t : TallyRun indices} {s o o' : Bytes} {r : Session}
+pub session-within : {c : Capacity} {ls : List Bytes} {t : TallyRun indices} {s o o' : Bytes} {r : SessionResult}
     → AgreesThroughout c ls t s o o' r → r .bytes ≤ length o'
 session-within a = printed-within (a .ends)

@@ -12,21 +12,21 @@ use Rattle.text.specs.declared.answer.Answer.{Answer}
 use Rattle.text.specs.declared.answer.Answer.the-variants.{Ok, No, Value, Same, Factor, Differ}
 
 -- "An answer's fields are parted by one tab, and it ends in LF."
-unfoldable pub answerLine : List Bytes → Bytes
-answerLine [] = LF ∷ []
-answerLine (f ∷ []) = f ++ (LF ∷ [])
-answerLine (f ∷ g ∷ fs) = f ++ (tab ∷ answerLine (g ∷ fs))
+unfoldable pub lineOfFields : List Bytes → Bytes
+lineOfFields [] = LF ∷ []
+lineOfFields (f ∷ []) = f ++ (LF ∷ [])
+lineOfFields (f ∷ g ∷ fs) = f ++ (tab ∷ lineOfFields (g ∷ fs))
 
 unfoldable pub printed : Answer → Bytes
 -- "An accepted call that sets or frees answers `ok` and the node count, a refused one `no` and its number."
-printed (Ok n) = answerLine (bytes "ok" ∷ decimal n ∷ [])
-printed (No r) = answerLine (bytes "no" ∷ decimal (refusalNumber r) ∷ [])
+printed (Ok n) = lineOfFields (bytes "ok" ∷ decimal n ∷ [])
+printed (No r) = lineOfFields (bytes "no" ∷ decimal (refusalNumber r) ∷ [])
 -- "answers `v` and the value at assignment v"
-printed (Value w) = answerLine (bytes "v" ∷ decimal w ∷ [])
+printed (Value w) = lineOfFields (bytes "v" ∷ decimal w ∷ [])
 -- "answers `same`; or `factor` and f ..; else `differ`"
-printed Same = answerLine (bytes "same" ∷ [])
-printed (Factor f) = answerLine (bytes "factor" ∷ decimal f ∷ [])
-printed Differ = answerLine (bytes "differ" ∷ [])
+printed Same = lineOfFields (bytes "same" ∷ [])
+printed (Factor f) = lineOfFields (bytes "factor" ∷ decimal f ∷ [])
+printed Differ = lineOfFields (bytes "differ" ∷ [])
 
 -- is the line refused?
 abbrev pub isNo : Answer → Bool

@@ -6,8 +6,8 @@ use lib.ListN.{length, length-append}
 use Rattle.text.specs.Text.{Bytes, LF, bytes}
 use Rattle.text.specs.Limits.{answerRoom, lastWeight}
 use Rattle.text.specs.Call.{refusalNumber}
-use Rattle.text.specs.Print.{Wrote, decimal}
-use Rattle.text.specs.Answer.{labelledLine, answerLine, printed, SmallAnswer, AnswerWritten}
+use Rattle.text.specs.Print.{WriteEnsures, decimal}
+use Rattle.text.specs.Answer.{labelledLine, lineOfFields, printed, SmallAnswer, AnswerWritten}
 use Rattle.text.specs.PrintLaws.{wrote-then, decimal-length, wrote-room}
 use Rattle.text.specs.declared.call.Refusal.{Refusal}
 use Rattle.text.specs.declared.answer.Answer.{Answer}
@@ -26,13 +26,15 @@ module _ (word : Bytes) (n : ℕ) (short : length word < 10) (small : n ≤ last
   pub labelled-label : (at m : ℕ) → at + answerRoom ≤ m → at + length word + length (decimal n) ≤ m
   labelled-label at m h = omega (arith, length-append word (decimal n), size)
 
-  pub labelled-room : {l l1 : Bytes} {at e : ℕ} → at + answerRoom ≤ length l → Wrote l at (word ++ decimal n) l1 e
+  pub labelled-room : {l l1 : Bytes} {at e : ℕ} → at + answerRoom ≤ length l → WriteEnsures l at (word ++ decimal n) l1
+      e
       → e + 1 ≤ length l1
   labelled-room h w = wrote-room 1 (omega (arith, size)) w
 
-  pub labelled-wrote : {l l1 l2 : Bytes} {at e r : ℕ} → at + answerRoom ≤ length l → Wrote l at (word ++ decimal n) l1 e
-      → Wrote l1 e (LF ∷ []) l2 r
-      → Wrote l at (labelledLine word n) l2 r
+  pub labelled-wrote : {l l1 l2 : Bytes} {at e r : ℕ} → at + answerRoom ≤ length l → WriteEnsures
+      l at (word ++ decimal n) l1 e
+      → WriteEnsures l1 e (LF ∷ []) l2 r
+      → WriteEnsures l at (labelledLine word n) l2 r
   unfolding labelledLine
   labelled-wrote h w v = wrote-then w v (omega (arith, size))
 
@@ -47,7 +49,7 @@ refusal-small refusal.Depends = omega arith
 refusal-small refusal.Full = omega arith
 
 pub printed-short : (a : Answer) → SmallAnswer a → length (printed a) ≤ answerRoom
-unfolding printed answerLine labelledLine
+unfolding printed lineOfFields labelledLine
 printed-short (Ok n) h = labelled-short (bytes "ok\t") n (omega arith) h
 printed-short (No r) h = labelled-short (bytes "no\t") (refusalNumber r) (omega arith) (refusal-small r)
 printed-short (Value w) h = labelled-short (bytes "v\t") w (omega arith) h
@@ -56,6 +58,6 @@ printed-short (Factor f) h = labelled-short (bytes "factor\t") f (omega arith) h
 printed-short Differ h = omega arith
 
 pub answer-written : {l : Bytes} {at : ℕ} (a : Answer) {l' : Bytes} {e : ℕ} → SmallAnswer a
-    → Wrote l at (printed a) l' e
+    → WriteEnsures l at (printed a) l' e
     → AnswerWritten l at a l' e
 answer-written a s w = record { exact = w .exact; after = w .after; short = printed-short a s }

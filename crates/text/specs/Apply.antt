@@ -5,7 +5,7 @@ use mathlib.Core.Option.{none}
 use Prim.Native.Nat.{ℕ, _+_, _*_}
 use lib.ListN.{set}
 use Rattle.diagram.specs.Tensor.{Tensor, bits, times, indices, renameDown}
-use Rattle.diagram.specs.Tally.{Step, return, _>>=_, low, cont, build, collect, filled}
+use Rattle.diagram.specs.Tally.{Step, return, _>>=_, low, cont, build, collect, filledTensors}
 use Rattle.diagram.specs.Gate.{gateTensor}
 use Rattle.diagram.specs.Top.{Free}
 use Rattle.diagram.specs.SumOver.{sumOver}
@@ -29,7 +29,10 @@ applyStep {d} g T = build (gateTensor d g) >>= contractStep (qubits g) T
 -- "`drop 2`, `collect`"
 unfoldable pub dropCollect : {d : ℕ} → Tally d → Tally d
 dropCollect t =
-    record { nodes = collect (filled (set (t .registers) 2 none)) (t .nodes); registers = set (t .registers) 2 none }
+    record {
+      nodes = collect (filledTensors (set (t .registers) 2 none)) (t .nodes);
+      registers = set (t .registers) 2 none;
+    }
 
 -- A depends on no middle of these qubits
 abbrev pub AllFree : {d : ℕ} → List ℕ → Tensor d → Type 0

@@ -15,13 +15,13 @@ use Rattle.diagram.specs.TallyStepLaws.{writes-answer, writes-return, writes-bi
 use Rattle.diagram.specs.TallyStep.{Writes}
 use Rattle.diagram.specs.Sets.{PrefixOf}
 use Rattle.diagram.specs.SetsLaws.{prefix-trans}
-use Rattle.diagram.specs.Engine.{setOf, tensorOf, Refines}
+use Rattle.diagram.specs.Store.{setOf, tensorOf, Refines}
 use Rattle.diagram.specs.Operation.{OperationRequires, RefinesCached}
 use Rattle.diagram.specs.Lower.{LowerRequires}
 use Rattle.diagram.specs.OperationLaws.{cached-as, cached-at, cached-then, cached-full-more, cached-step}
 use Rattle.diagram.specs.Gate.{gateTensor}
 use Rattle.diagram.specs.MeaningLaws.{valid-more}
-use Rattle.diagram.specs.EngineLaws.{tensor-kept, refines-count}
+use Rattle.diagram.specs.StoreLaws.{tensor-kept, refines-count}
 use Rattle.text.specs.Limits.{mostQubits}
 use Rattle.text.specs.Names.{Placed}
 use Rattle.text.specs.Qubits.{Rising, AllSet, middles, qubitList, QubitsOf, qubits}
@@ -105,10 +105,10 @@ answered : {c' s s' : List ℕ} {st t : State} {f : Step indices} {e : Edge}
     → f (setOf s st) .0 ≡ tensorOf s' t e
 answered w = ap (λ p. p .0) (w .step .is)
 
-worked-ready : {c' s s' : List ℕ} {st t : State} {f : Step indices} {e : Edge}
+cached-requires : {c' s s' : List ℕ} {st t : State} {f : Step indices} {e : Edge}
     → RefinesCached c' s s' st f (outcome.Edge e t)
     → OperationRequires c' s' t e e
-worked-ready w = record { sound = w .step .sound; left = w .step .valid; right = w .step .valid; cache = w .cache }
+cached-requires w = record { sound = w .step .sound; left = w .step .valid; right = w .step .valid; cache = w .cache }
 
 -- one fresh index
 
@@ -154,7 +154,7 @@ module _ {p q : ℕ} {x : Qubits} {T : Tensor indices} (e : x ≡ Two p q) (h : 
       first = cached-at (low (3 * p + 2) T) m w f
 
       pub ready-second : OperationRequires c₁ s₁ t y y
-      ready-second = worked-ready first
+      ready-second = cached-requires first
 
       pub free-second : Free (3 * q + 1) (tensorOf s₁ t y)
       free-second = rw (← answered first) (second-free (setOf s st) .0)
@@ -189,16 +189,16 @@ module _ {m : ℕ} (x : Qubits) (k : m ≡ middles (qubitList x)) (u : Rising in
       met = cached-at (cont A T (bits m)) n w f
 
       pub contracted-ready : OperationRequires c₁ s₁ t y y
-      contracted-ready = worked-ready met
+      contracted-ready = cached-requires met
 
       pub contracted-renamable : Renamable (qubitList x) (tensorOf s₁ t y)
       contracted-renamable = subst (Renamable (qubitList x)) (answered met) (loose (setOf s st))
 
-      pub contracted-works : (c₂ s₂ : List ℕ) (r : Outcome)
+      pub contract-rename-refines : (c₂ s₂ : List ℕ) (r : Outcome)
           → RefinesCached c₂ s₁ s₂ t (renameStep (qubitList x) (tensorOf s₁ t y)) r
           → RefinesCached c₂ s s₂ st (contractStep (qubitList x) T A) r
       unfolding contractStep _>>=_
-      contracted-works c₂ s₂ r v =
+      contract-rename-refines c₂ s₂ r v =
           cached-then c₂ s₂ (contractStep (qubitList x) T A) (renameStep (qubitList x) (tensorOf s₁ t y)) r met
           (rw (← over, met .step .is)) v
 
@@ -221,22 +221,22 @@ module _ {c s : List ℕ} {st : State} {x : Edge} (h : OperationRequires c s st 
       (gate-rising indices mostQubits g (omega (arith, indices-count)) p) _)
 
   module _ {a : Edge} {t : State} (f : n ≡ outcome.Edge a t) where
-    built-done : RefinesCached c s s₁ st (build (gateTensor indices g)) (outcome.Edge a t)
-    built-done = cached-at (build (gateTensor indices g)) n built f
+    build-refines : RefinesCached c s s₁ st (build (gateTensor indices g)) (outcome.Edge a t)
+    build-refines = cached-at (build (gateTensor indices g)) n built f
 
     pub apply-ready : OperationRequires c s₁ t a x
     apply-ready = record {
-      sound = built-done .step .sound;
-      left = built-done .step .valid;
-      right = valid-more (t .count) (refines-count (built-done .step)) (h .left);
-      cache = built-done .cache;
+      sound = build-refines .step .sound;
+      left = build-refines .step .valid;
+      right = valid-more (t .count) (refines-count (build-refines .step)) (h .left);
+      cache = build-refines .cache;
     }
 
-    pub apply-works : (c₂ s₂ : List ℕ) (r : Outcome)
+    pub apply-refines : (c₂ s₂ : List ℕ) (r : Outcome)
         → RefinesCached c₂ s₁ s₂ t (contractStep (qubitList qs) (tensorOf s₁ t x) (tensorOf s₁ t a)) r
         → RefinesCached c₂ s s₂ st (applyStep g (tensorOf s st x)) r
     unfolding applyStep _>>=_
-    apply-works c₂ s₂ r v =
+    apply-refines c₂ s₂ r v =
         cached-then c₂ s₂ (applyStep g (tensorOf s st x))
-        (contractStep (qubitList qs) (tensorOf s₁ t x) (tensorOf s₁ t a)) r built-done
-        (rw (built-done .step .is, o .is, tensor-kept s s₁ st t (built-done .step .grown) (h .left))) v
+        (contractStep (qubitList qs) (tensorOf s₁ t x) (tensorOf s₁ t a)) r build-refines
+        (rw (build-refines .step .is, o .is, tensor-kept s s₁ st t (build-refines .step .grown) (h .left))) v

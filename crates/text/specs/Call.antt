@@ -71,15 +71,15 @@ callOf Cmp = twoNumbers malformed (λ a b. checkRegister a (checkRegister b (cal
 callOf Unknown = λ args. malformed
 
 -- What a call carries is in range.
-abbrev pub Ranged : Call → Type 0
-Ranged (call.Put d w) = (d < registerCount) × (w < modulus)
-Ranged (call.Gate d g) = (d < registerCount) × Placed mostQubits g
-Ranged (call.Unit d n) = (d < registerCount) × ((1 ≤ n) × (n ≤ mostQubits))
-Ranged (call.Add d a b) = (d < registerCount) × ((a < registerCount) × (b < registerCount))
-Ranged (call.Cont d a b m) = (d < registerCount) × ((a < registerCount) × ((b < registerCount) × (m < masks)))
-Ranged (call.Low d a k) = (d < registerCount) × ((a < registerCount) × ((1 ≤ k) × (k ≤ lastIndex)))
-Ranged (call.Drop a) = a < registerCount
-Ranged call.Collect = Unit
-Ranged (call.At a v) = (a < registerCount) × (v < masks)
-Ranged (call.Cmp a b) = (a < registerCount) × (b < registerCount)
-Ranged (call.Refused r) = Unit
+abbrev pub InRange : Call → Type 0
+InRange (call.Put d w) = (d < registerCount) × (w < modulus)
+InRange (call.Gate d g) = (d < registerCount) × Placed mostQubits g
+InRange (call.Unit d n) = (d < registerCount) × ((1 ≤ n) × (n ≤ mostQubits))
+InRange (call.Add d a b) = (d < registerCount) × ((a < registerCount) × (b < registerCount))
+InRange (call.Cont d a b m) = (d < registerCount) × ((a < registerCount) × ((b < registerCount) × (m < masks)))
+InRange (call.Low d a k) = (d < registerCount) × ((a < registerCount) × ((1 ≤ k) × (k ≤ lastIndex)))
+InRange (call.Drop a) = a < registerCount
+InRange call.Collect = Unit
+InRange (call.At a v) = (a < registerCount) × (v < masks)
+InRange (call.Cmp a b) = (a < registerCount) × (b < registerCount)
+InRange (call.Refused r) = Unit

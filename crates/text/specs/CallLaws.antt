@@ -8,7 +8,7 @@ use borrow.Author.Tests.{le-leb, lt-leb, leb-true, eqb-false}
 use lib.Dec.{leb, eqb}
 use Rattle.text.specs.Limits.{lastRegister, registerCount, lastIndex, lastMask, lastWeight, mostQubits}
 use Rattle.text.specs.Args.{oneNumber, twoNumbers, threeNumbers, fourNumbers}
-use Rattle.text.specs.Call.{checkRegister, checkRange, malformed, Ranged, checkApart, callOf}
+use Rattle.text.specs.Call.{checkRegister, checkRange, malformed, InRange, checkApart, callOf}
 use Rattle.text.specs.ArgsLaws.{by-count}
 use Rattle.text.specs.declared.call.Call.{Call}
 use Rattle.text.specs.declared.call.Refusal.the-variants.{Register, Range, Equal}
@@ -37,46 +37,47 @@ pub within-above : (x least most : ℕ) (next : Call) → most < x → Refused R
 unfolding checkRange
 within-above x least most next p = rw (lt-leb x most p, and-false (leb least x))
 
-on-one : (f : ℕ → Call) → ((a : ℕ) → Ranged (f a)) → (x : Args) → Ranged (oneNumber malformed f x)
-on-one f h = by-count Ranged _ _ f _ _ _ tt tt h (λ a b. tt) (λ a b c. tt) (λ a b c d. tt)
+on-one : (f : ℕ → Call) → ((a : ℕ) → InRange (f a)) → (x : Args) → InRange (oneNumber malformed f x)
+on-one f h = by-count InRange _ _ f _ _ _ tt tt h (λ a b. tt) (λ a b c. tt) (λ a b c d. tt)
 
-on-two : (f : ℕ → ℕ → Call) → ((a b : ℕ) → Ranged (f a b)) → (x : Args) → Ranged (twoNumbers malformed f x)
-on-two f h = by-count Ranged _ _ _ f _ _ tt tt (λ a. tt) h (λ a b c. tt) (λ a b c d. tt)
+on-two : (f : ℕ → ℕ → Call) → ((a b : ℕ) → InRange (f a b)) → (x : Args) → InRange (twoNumbers malformed f x)
+on-two f h = by-count InRange _ _ _ f _ _ tt tt (λ a. tt) h (λ a b c. tt) (λ a b c d. tt)
 
-on-three : (f : ℕ → ℕ → ℕ → Call) → ((a b c : ℕ) → Ranged (f a b c)) → (x : Args) → Ranged (threeNumbers malformed f x)
-on-three f h = by-count Ranged _ _ _ _ f _ tt tt (λ a. tt) (λ a b. tt) h (λ a b c d. tt)
+on-three : (f : ℕ → ℕ → ℕ → Call) → ((a b c : ℕ) → InRange (f a b c)) → (x : Args) → InRange
+    (threeNumbers malformed f x)
+on-three f h = by-count InRange _ _ _ _ f _ tt tt (λ a. tt) (λ a b. tt) h (λ a b c d. tt)
 
-on-four : (f : ℕ → ℕ → ℕ → ℕ → Call) → ((a b c d : ℕ) → Ranged (f a b c d)) → (x : Args)
-    → Ranged (fourNumbers malformed f x)
-on-four f h = by-count Ranged _ _ _ _ _ f tt tt (λ a. tt) (λ a b. tt) (λ a b c. tt) h
+on-four : (f : ℕ → ℕ → ℕ → ℕ → Call) → ((a b c d : ℕ) → InRange (f a b c d)) → (x : Args)
+    → InRange (fourNumbers malformed f x)
+on-four f h = by-count InRange _ _ _ _ _ f tt tt (λ a. tt) (λ a b. tt) (λ a b c. tt) h
 
-pub on-register : (d : ℕ) (next : Call) → (d < registerCount → Ranged next) → Ranged (checkRegister d next)
+pub on-register : (d : ℕ) (next : Call) → (d < registerCount → InRange next) → InRange (checkRegister d next)
 unfolding checkRegister
 on-register d next f = go (leb d lastRegister) refl
   where
-    go : (t : Bool) → leb d lastRegister ≡ t → Ranged (cond t next (Refused Register))
+    go : (t : Bool) → leb d lastRegister ≡ t → InRange (cond t next (Refused Register))
     go true e = f (omega (arith, leb-true d lastRegister e))
     go false e = tt
 
-pub on-within : (x least most : ℕ) (next : Call) → (least ≤ x → x ≤ most → Ranged next)
-    → Ranged (checkRange x least most next)
+pub on-within : (x least most : ℕ) (next : Call) → (least ≤ x → x ≤ most → InRange next)
+    → InRange (checkRange x least most next)
 unfolding checkRange
 on-within x least most next f = go (leb least x) (leb x most) refl refl
   where
-    go : (t u : Bool) → leb least x ≡ t → leb x most ≡ u → Ranged (cond (t && u) next (Refused Range))
+    go : (t u : Bool) → leb least x ≡ t → leb x most ≡ u → InRange (cond (t && u) next (Refused Range))
     go true true p q = f (leb-true least x p) (leb-true x most q)
     go true false p q = tt
     go false u p q = tt
 
-pub on-apart : (p q : ℕ) (next : Call) → (p ≢ q → Ranged next) → Ranged (checkApart p q next)
+pub on-apart : (p q : ℕ) (next : Call) → (p ≢ q → InRange next) → InRange (checkApart p q next)
 unfolding checkApart
 on-apart p q next f = go (eqb p q) refl
   where
-    go : (t : Bool) → eqb p q ≡ t → Ranged (cond t (Refused Equal) next)
+    go : (t : Bool) → eqb p q ≡ t → InRange (cond t (Refused Equal) next)
     go true e = tt
     go false e = f (eqb-false p q e)
 
-pub call-ranged : (w : Word) (args : Args) → Ranged (callOf w args)
+pub call-ranged : (w : Word) (args : Args) → InRange (callOf w args)
 unfolding callOf
 call-ranged word.Put args =
     on-two _ (λ d w. on-register d _ (λ p. on-within w 0 lastWeight _ (λ l m. (p, omega arith)))) args
@@ -92,7 +93,7 @@ call-ranged word.Low args =
     (λ q. on-within k 1 lastIndex _ (λ l h. (p, (q, (l, h))))))) args
 call-ranged word.Drop args = on-one _ (λ a. on-register a _ (λ p. p)) args
 call-ranged word.Collect args =
-    by-count Ranged malformed Collect _ _ _ _ tt tt (λ a. tt) (λ a b. tt) (λ a b c. tt) (λ a b c d. tt) args
+    by-count InRange malformed Collect _ _ _ _ tt tt (λ a. tt) (λ a b. tt) (λ a b c. tt) (λ a b c d. tt) args
 call-ranged word.At args =
     on-two _ (λ a v. on-register a _ (λ p. on-within v 0 lastMask _ (λ l h. (p, omega arith)))) args
 call-ranged word.Cmp args = on-two _ (λ a b. on-register a _ (λ p. on-register b _ (λ q. (p, q)))) args

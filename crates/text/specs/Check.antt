@@ -16,11 +16,11 @@ use Rattle.text.specs.declared.check.Header.the-variants.{Of, Bad}
 use Rattle.text.specs.declared.args.Args.the-variants.{None}
 use Rattle.text.specs.declared.check.Fault.{Fault}
 use Rattle.text.specs.declared.check.Item.{Item}
-use Rattle.text.specs.declared.names.Named.{Named}
+use Rattle.text.specs.declared.names.NameResult.{NameResult}
 use Rattle.text.specs.declared.check.Fault.the-variants.{Line, Qubit, Equal, Parting, Header as BadHeader}
 use Rattle.diagram.specs.declared.gate.Gate.{Gate}
-use Rattle.text.specs.declared.check.Checked.{Checked}
-use Rattle.text.specs.declared.check.Checked.the-variants.{Good, Faulty}
+use Rattle.text.specs.declared.check.CheckResult.{CheckResult}
+use Rattle.text.specs.declared.check.CheckResult.the-variants.{Good, Faulty}
 use Rattle.text.specs.declared.check.Next.{Next}
 use Rattle.text.specs.declared.check.Next.the-variants.{On, Stop}
 use Rattle.text.specs.declared.check.Item.the-variants as item
@@ -41,10 +41,10 @@ unfoldable pub ensured : Bool → Fault → Item → Item
 ensured test fault next = cond test next (item.Faulty fault)
 
 -- "within a gate line 11 (unknown name, ..), 12 (qubit not below n), 13 (qubits equal)"
-abbrev pub oneQubitItem : ℕ → ℕ → Named → Item
+abbrev pub oneQubitItem : ℕ → ℕ → NameResult → Item
 oneQubitItem n q name = known (item.Faulty Line) name (λ g. ensured (ltb q n) Qubit (item.Gate g))
 
-abbrev pub twoQubitItem : ℕ → ℕ → ℕ → Named → Item
+abbrev pub twoQubitItem : ℕ → ℕ → ℕ → NameResult → Item
 twoQubitItem n p q name =
     known (item.Faulty Line) name
     (λ g. ensured (ltb p n) Qubit (ensured (ltb q n) Qubit (ensured (not (eqb p q)) Equal (item.Gate g))))
@@ -114,20 +114,20 @@ unfoldable pub readText : Bytes → Reading
 readText text = readLines (lines text)
 
 -- the same without the gates: n, the line of `=` and the number of lines; or the fault and its line
-abbrev pub checkedOf : Reading → Checked
+abbrev pub checkedOf : Reading → CheckResult
 checkedOf (lists n gs hs) = Good n (2 + length gs) (2 + length gs + length hs)
 checkedOf (fault f at) = Faulty f at
 
 -- What the code promises.
 
 -- a first line is read: its n is 1 to 8
-abbrev pub RangedHeader : Header → Type 0
-RangedHeader (Of n) = (1 ≤ n) × (n ≤ mostQubits)
-RangedHeader Bad = Unit
+abbrev pub HeaderInRange : Header → Type 0
+HeaderInRange (Of n) = (1 ≤ n) × (n ≤ mostQubits)
+HeaderInRange Bad = Unit
 
 pub record HeaderRead (line : Bytes) (r : Header) : Type 0 where
   pub header : r ≡ headerOf line
-  pub ranged : RangedHeader r
+  pub ranged : HeaderInRange r
 
 -- another line is read: its gate is on qubits below n
 abbrev pub PlacedItem : ℕ → Item → Type 0
@@ -150,13 +150,13 @@ pub record GateRead (n : ℕ) (line : Bytes) (g : Gate) : Type 0 where
   pub placed : Placed n g
 
 -- a whole text is read
-abbrev pub RangedChecked : Checked → Type 0
-RangedChecked (Good n parting count) = (1 ≤ n) × (n ≤ mostQubits)
-RangedChecked (Faulty f line) = Unit
+abbrev pub CheckResultInRange : CheckResult → Type 0
+CheckResultInRange (Good n parting count) = (1 ≤ n) × (n ≤ mostQubits)
+CheckResultInRange (Faulty f line) = Unit
 
-pub record TextRead (text : Bytes) (r : Checked) : Type 0 where
+pub record TextRead (text : Bytes) (r : CheckResult) : Type 0 where
   pub checked : r ≡ checkedOf (readText text)
-  pub ranged : RangedChecked r
+  pub ranged : CheckResultInRange r
 
 -- after a line: the line of `=` so far, or 0; or the line's fault
 abbrev pub partingAfter : Item → ℕ → ℕ → Next
@@ -164,15 +164,15 @@ partingAfter (item.Gate g) parting line = On parting
 partingAfter item.Parting parting line = cond (eqb parting 0) (On line) (Stop Parting)
 partingAfter (item.Faulty f) parting line = Stop f
 
-unfoldable pub continueCheck : Next → ℕ → (ℕ → Checked) → Checked
+unfoldable pub continueCheck : Next → ℕ → (ℕ → CheckResult) → CheckResult
 continueCheck (On parting) line more = more parting
 continueCheck (Stop f) line more = Faulty f line
 
-unfoldable pub checkedAtEnd : ℕ → ℕ → ℕ → Checked
+unfoldable pub checkedAtEnd : ℕ → ℕ → ℕ → CheckResult
 checkedAtEnd n parting count = cond (eqb parting 0) (Faulty Parting (count + 1)) (Good n parting count)
 
 -- the lines after the first `count`: their numbers alone are kept, not their gates
-unfoldable pub checkLines : ℕ → ℕ → ℕ → List Bytes → Checked
+unfoldable pub checkLines : ℕ → ℕ → ℕ → List Bytes → CheckResult
 checkLines n parting count [] = checkedAtEnd n parting count
 checkLines n parting count (line ∷ ls) =
     continueCheck (partingAfter (itemOf n line) parting (count + 1)) (count + 1) (λ p. checkLines n p (count + 1) ls)

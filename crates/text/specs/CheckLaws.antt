@@ -12,7 +12,7 @@ use Rattle.text.specs.Limits.{mostQubits, mostDigits}
 use Rattle.text.specs.Args.{numbers}
 use Rattle.text.specs.Names.{oneQubit, twoQubits}
 use Rattle.text.specs.Check.{ensured, PlacedItem, oneQubitItem, twoQubitItem, gateItemOf, gateItemFields, itemOf}
-use Rattle.text.specs.Check.{ItemRead, GateRead, headerNumbers, headerFields, RangedHeader, headerOf, HeaderRead}
+use Rattle.text.specs.Check.{ItemRead, GateRead, headerNumbers, headerFields, HeaderInRange, headerOf, HeaderRead}
 use Rattle.text.specs.Split.{part, Ends, fieldsAfter}
 use Rattle.text.specs.SplitLaws.{fields-first}
 use Rattle.text.specs.ArgsLaws.{by-count}
@@ -97,19 +97,19 @@ header-below n p = rw (lt-leb 1 n p)
 pub header-above : (n : ℕ) → mostQubits < n → Bad ≡ cond (leb 1 n && leb n mostQubits) (Of n) Bad
 header-above n p = rw (lt-leb n mostQubits p, and-false (leb 1 n))
 
-header-ranged : (fs : List Bytes) → RangedHeader (headerFields fs)
+header-ranged : (fs : List Bytes) → HeaderInRange (headerFields fs)
 unfolding headerFields headerNumbers
 header-ranged [] = tt
 header-ranged (word ∷ more) = go (sameBytes word (bytes "lines"))
   where
-    number : (n : ℕ) (t u : Bool) → leb 1 n ≡ t → leb n mostQubits ≡ u → RangedHeader (cond (t && u) (Of n) Bad)
+    number : (n : ℕ) (t u : Bool) → leb 1 n ≡ t → leb n mostQubits ≡ u → HeaderInRange (cond (t && u) (Of n) Bad)
     number n true true p q = (leb-true 1 n p, leb-true n mostQubits q)
     number n true false p q = tt
     number n false u p q = tt
 
-    go : (t : Bool) → RangedHeader (cond t (headerNumbers (numbers mostDigits None more)) Bad)
+    go : (t : Bool) → HeaderInRange (cond t (headerNumbers (numbers mostDigits None more)) Bad)
     go true =
-        by-count RangedHeader Bad Bad (λ n. cond (leb 1 n && leb n mostQubits) (Of n) Bad) _ _ _ tt tt
+        by-count HeaderInRange Bad Bad (λ n. cond (leb 1 n && leb n mostQubits) (Of n) Bad) _ _ _ tt tt
         (λ n. number n (leb 1 n) (leb n mostQubits) refl refl) (λ a b. tt) (λ a b c. tt) (λ a b c d. tt)
         (numbers mostDigits None more)
     go false = tt

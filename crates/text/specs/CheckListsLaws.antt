@@ -14,7 +14,7 @@ use Rattle.text.specs.SplitLaws.{lines-first, lines-none, head-same, tai
 use Rattle.text.specs.CheckTextLaws.{second-no-first}
 use Rattle.text.specs.declared.check.Item.{Item}
 use Rattle.diagram.specs.declared.gate.Gate.{Gate}
-use Rattle.text.specs.declared.check.Checked.the-variants.{Good}
+use Rattle.text.specs.declared.check.CheckResult.the-variants.{Good}
 use Rattle.text.specs.declared.check.Header.{Header}
 use Rattle.text.specs.declared.check.Header.the-variants.{Of, Bad}
 use Rattle.text.specs.declared.check.Item.the-variants as item

@@ -13,11 +13,11 @@ use Rattle.text.specs.Limits.{mostQubits}
 use Rattle.text.specs.Check.{Reading, lists, fault, partingAfter, continueCheck, checkedAtEnd, checkLines, itemOf}
 use Rattle.text.specs.Check.{withSecond, secondItem, secondList, NoFirst, withFirst, firstItem, firstList}
 use Rattle.text.specs.Check.{CheckLoop, ItemRead, readLines, readText, TextRead, afterHeader, HeaderRead}
-use Rattle.text.specs.Check.{RangedChecked, checkedOf, RangedHeader}
+use Rattle.text.specs.Check.{CheckResultInRange, checkedOf, HeaderInRange}
 use Rattle.text.specs.Split.{part, Ends}
 use Rattle.text.specs.SplitLaws.{lines-first, lines-none}
-use Rattle.text.specs.declared.check.Checked.{Checked}
-use Rattle.text.specs.declared.check.Checked.the-variants.{Good, Faulty}
+use Rattle.text.specs.declared.check.CheckResult.{CheckResult}
+use Rattle.text.specs.declared.check.CheckResult.the-variants.{Good, Faulty}
 use Rattle.text.specs.declared.check.Item.{Item}
 use Rattle.diagram.specs.declared.gate.Gate.{Gate}
 use Rattle.text.specs.declared.check.Next.{Next}
@@ -30,11 +30,11 @@ use Rattle.text.specs.declared.check.Item.the-variants as item
 
 -- It is what the definition says.
 
-abbrev secondOf : ℕ → ℕ → Reading → Checked
+abbrev secondOf : ℕ → ℕ → Reading → CheckResult
 secondOf parting count (lists n gs hs) = Good n parting (count + length hs)
 secondOf parting count (fault f at) = Faulty f at
 
-abbrev firstOf : ℕ → Reading → Checked
+abbrev firstOf : ℕ → Reading → CheckResult
 firstOf count (lists n gs hs) = Good n (count + 1 + length gs) (count + 1 + length gs + length hs)
 firstOf count (fault f at) = Faulty f at
 
@@ -141,18 +141,18 @@ unfolding readText readLines afterHeader
 checked-bad {s} {e} h w r q = record { checked = rw (lines-first (omega arith) w, ← r .header, q); ranged = tt }
 
 check-ranged : (n parting count : ℕ) (ls : List Bytes) → 1 ≤ n → n ≤ mostQubits
-    → RangedChecked (checkLines n parting count ls)
+    → CheckResultInRange (checkLines n parting count ls)
 unfolding checkLines checkedAtEnd continueCheck
 check-ranged n parting count [] h k = go (eqb parting 0)
   where
-    go : (t : Bool) → RangedChecked (cond t (Faulty Parting (count + 1)) (Good n parting count))
+    go : (t : Bool) → CheckResultInRange (cond t (Faulty Parting (count + 1)) (Good n parting count))
     go true = tt
     go false = (h, k)
 check-ranged n parting count (line ∷ ls) h k =
     go (partingAfter (itemOf n line) parting (count + 1)) (λ p. check-ranged n p (count + 1) ls h k)
   where
-    go : (x : Next) → ((p : ℕ) → RangedChecked (checkLines n p (count + 1) ls))
-        → RangedChecked (continueCheck x (count + 1) (λ p. checkLines n p (count + 1) ls))
+    go : (x : Next) → ((p : ℕ) → CheckResultInRange (checkLines n p (count + 1) ls))
+        → CheckResultInRange (continueCheck x (count + 1) (λ p. checkLines n p (count + 1) ls))
     go (On p) rec = rec p
     go (Stop f) rec = tt
 
@@ -160,13 +160,13 @@ first-checked : (r : Reading) → firstOf 1 r ≡ checkedOf r
 first-checked (lists n gs hs) = refl
 first-checked (fault f at) = refl
 
-pub checked-of : {s : Bytes} {e n : ℕ} {r : Header} {x : Checked} → (length s ≡ 0 → ⊥) → Ends LF s 0 e
+pub checked-of : {s : Bytes} {e n : ℕ} {r : Header} {x : CheckResult} → (length s ≡ 0 → ⊥) → Ends LF s 0 e
     → HeaderRead (part s 0 e) r → r ≡ Of n
     → x ≡ checkLines n 0 1 (lines (drop (e + 1) s)) → TextRead s x
 unfolding readText readLines afterHeader
 checked-of {s} {e} {n} {r} {x} h w i q o =
     let ls : List Bytes = lines (drop (e + 1) s) in
-    let small : RangedHeader (Of n) = rw q at (i .ranged) in
+    let small : HeaderInRange (Of n) = rw q at (i .ranged) in
     record {
       checked =
           o ∙ check-first n 1 ls ∙ rw (lines-first (omega arith) w, ← i .header, q) (first-checked (firstList n 2 ls));

@@ -1,5 +1,5 @@
--- What holds of the tally at the start and after every call: its set is clean (all normal, no two equal or
--- proportional), and every nonconstant cofactor of a filled register has its normal multiple there. So `collect`, a
+-- What holds of the tally at the start and after every call: its set is normal (all its tensors are, and no two
+-- are equal), and every nonconstant cofactor of a filled register has its normal multiple there. So `collect`, a
 -- filter of the set, keeps exactly what document 01 says.
 use mathlib.Core.List.{List, [], _∷_}
 use mathlib.Core.Option.{Option, none, some}
@@ -12,7 +12,7 @@ use Rattle.text.specs.Session.{Tally}
 use Rattle.text.specs.declared.call.Call.{Call}
 use Rattle.text.specs.declared.call.Call.the-variants as call
 
--- a call's index of `low` is below d; the line's reader ensures it at 24 (Ranged)
+-- a call's index of `low` is below d; the line's reader ensures it at 24 (InRange)
 abbrev pub LowBelow : ℕ → Call → Type 0
 LowBelow d (call.Put r w) = Unit {0}
 LowBelow d (call.Gate r g) = Unit {0}

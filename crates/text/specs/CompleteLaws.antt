@@ -8,7 +8,7 @@ use native.Mathlib.Omega.{arith}
 use lib.ListN.{set, getD, length}
 use lib.Dec.{leb}
 use Rattle.diagram.specs.Tensor.{Tensor, same, bits, constant, depends, indices, indices-count, indexCount}
-use Rattle.diagram.specs.Tally.{Set, member, filled, collect, Step, sum, cont, low, build, keeps, return}
+use Rattle.diagram.specs.Tally.{Set, member, filledTensors, collect, Step, sum, cont, low, build, keeps, return}
 use Rattle.diagram.specs.Sets.{PrefixOf}
 use Rattle.diagram.specs.SetsLaws.{prefix-refl}
 use Rattle.diagram.specs.TallyCoverLaws.{covers-prefix, covers-constant}
@@ -17,14 +17,14 @@ use Rattle.diagram.specs.TensorLaws.{same-eq, same-refl}
 use Rattle.diagram.specs.TestLaws.{or-right}
 use Rattle.diagram.specs.TallyCollectLaws.{collect-covers, collect-exactly}
 use Rattle.diagram.specs.Weights.{toWeight}
-use Rattle.diagram.specs.FreeLaws.{depends-free}
-use Rattle.diagram.specs.NormalSetLaws.{normal-set-collect, normal-set-empty}
-use Rattle.diagram.specs.SetAfterLaws.{sum-set-after, cont-set-after, low-set-after, build-set-after}
+use Rattle.diagram.specs.TopFreeLaws.{depends-free}
+use Rattle.diagram.specs.SetsNormalLaws.{normal-set-collect, normal-set-empty}
+use Rattle.diagram.specs.TallySetAfterLaws.{sum-set-after, cont-set-after, low-set-after, build-set-after}
 use Rattle.diagram.specs.TallyStep.{SetAfter}
 use Rattle.diagram.specs.Gate.{gateTensor, unitTensor}
 use Rattle.text.specs.Text.{Bytes}
 use Rattle.text.specs.Limits.{answerRoom}
-use Rattle.text.specs.Call.{Ranged}
+use Rattle.text.specs.Call.{InRange}
 use Rattle.text.specs.Line.{readLine}
 use Rattle.text.specs.Session.{Capacity, fits, Tally, TallyReply, answer, accept, refuse, settle, withTensor}
 use Rattle.text.specs.Session.{withRegister, emptyTally, TallyRun, emptyRun, withAnswer, stoppedRun, run}
@@ -64,25 +64,26 @@ covered-at s (none ∷ l) (suc a) c e = covered-at s l a c e
 covered-at s (some U ∷ l) (suc a) c e = covered-at s l a (c .1) e
 
 covered-filled : {d : ℕ} (s : Set d) (l : List (Option (Tensor d))) → AllCovered s l → (T : Tensor d)
-    → member T (filled l) ≡ true → Covers s T
-unfolding filled member
+    → member T (filledTensors l) ≡ true → Covers s T
+unfolding filledTensors member
 covered-filled s [] c T e = absurd (true≢false (sym e))
 covered-filled s (none ∷ l) c T e = covered-filled s l c T e
 covered-filled s (some U ∷ l) c T e = go (same T U) refl e (covered-filled s l (c .1) T)
   where
-    go : (b : Bool) → same T U ≡ b → (b || member T (filled l)) ≡ true → (member T (filled l) ≡ true → Covers s T)
+    go : (b : Bool) → same T U ≡ b → (b || member T (filledTensors l)) ≡ true
+        → (member T (filledTensors l) ≡ true → Covers s T)
         → Covers s T
     go true q e ih = subst (Covers s) (sym (same-eq T U q)) (c .0)
     go false q e ih = ih e
 
 covered-collect : {d : ℕ} (f : List (Tensor d)) (s : Set d) (l : List (Option (Tensor d))) → AllCovered s l
-    → ((T : Tensor d) → member T (filled l) ≡ true → member T f ≡ true) → AllCovered (collect f s) l
-unfolding filled member
+    → ((T : Tensor d) → member T (filledTensors l) ≡ true → member T f ≡ true) → AllCovered (collect f s) l
+unfolding filledTensors member
 covered-collect f s [] c h = tt
 covered-collect f s (none ∷ l) c h = covered-collect f s l c h
 covered-collect f s (some T ∷ l) c h = (
   collect-covers f s T (h T (rw (same-refl T))) (c .0),
-  covered-collect f s l (c .1) (λ U e. h U (or-right (same U T) (member U (filled l)) e)),
+  covered-collect f s l (c .1) (λ U e. h U (or-right (same U T) (member U (filledTensors l)) e)),
 )
 
 -- the pieces of a call
@@ -150,8 +151,8 @@ module _ {d : ℕ} (c : Capacity) (t : Tally d) (k : Complete t) where
         covered = covered-clear (t .nodes) (t .registers) a (k .covered);
       })
   answer-complete call.Collect i = record {
-    normal = normal-set-collect (filled (t .registers)) (t .nodes) (k .normal);
-    covered = covered-collect (filled (t .registers)) (t .nodes) (t .registers) (k .covered) (λ T e. e);
+    normal = normal-set-collect (filledTensors (t .registers)) (t .nodes) (k .normal);
+    covered = covered-collect (filledTensors (t .registers)) (t .nodes) (t .registers) (k .covered) (λ T e. e);
   }
   answer-complete (call.At a v) i = register-complete a _ (λ A p. k)
   answer-complete (call.Cmp a b) i = register-complete a _ (λ A p. register-complete b _ (λ B q. k))
@@ -160,9 +161,9 @@ module _ {d : ℕ} (c : Capacity) (t : Tally d) (k : Complete t) where
   -- "the set keeps exactly the normal multiples of the nonconstant tensors got from filled registers": a filter loses
   -- nothing that document 01 keeps
   pub collect-keeps-all : (x : Tensor d)
-      → member x (collect (filled (t .registers)) (t .nodes)) ≡ member x (keeps d (filled (t .registers)))
+      → member x (collect (filledTensors (t .registers)) (t .nodes)) ≡ member x (keeps d (filledTensors (t .registers)))
   collect-keeps-all =
-      collect-exactly (filled (t .registers)) (t .nodes) (covered-filled (t .nodes) (t .registers) (k .covered))
+      collect-exactly (filledTensors (t .registers)) (t .nodes) (covered-filled (t .nodes) (t .registers) (k .covered))
 
 -- "empty at first"
 pub start-complete : (d : ℕ) → Complete (emptyTally {d = d})
@@ -171,7 +172,7 @@ start-complete d = record { normal = normal-set-empty; covered = tt }
 
 -- At every point of every run: for all lines, and so for those answered so far.
 
-ranged-low-below : (x : Call) → Ranged x → LowBelow indexCount x
+ranged-low-below : (x : Call) → InRange x → LowBelow indexCount x
 ranged-low-below (call.Put r w) h = tt
 ranged-low-below (call.Gate r g) h = tt
 ranged-low-below (call.Unit r n) h = tt
@@ -208,6 +209,7 @@ module _ (c : Capacity) (room : ℕ) where
 
   -- so a `collect` at any point of a run keeps exactly what document 01 says
   pub run-collects : (ls : List Bytes) (x : Tensor indices)
-      → member x (collect (filled (run c room ls emptyRun .tally .registers)) (run c room ls emptyRun .tally .nodes))
-      ≡ member x (keeps indices (filled (run c room ls emptyRun .tally .registers)))
+      → member x (collect (filledTensors (run c room ls emptyRun .tally .registers))
+      (run c room ls emptyRun .tally .nodes))
+      ≡ member x (keeps indices (filledTensors (run c room ls emptyRun .tally .registers)))
   run-collects ls = collect-keeps-all c (run c room ls emptyRun .tally) (run-complete ls)

@@ -4,7 +4,7 @@ use mathlib.Core.Path.{_≡_}
 use mathlib.Core.Bool.{true}
 use Prim.Native.Nat.{ℕ}
 use Rattle.diagram.specs.Tensor.{indices}
-use Rattle.diagram.specs.Engine.{setOf}
+use Rattle.diagram.specs.Store.{setOf}
 use Rattle.diagram.specs.Registers.{holdsAll}
 use Rattle.diagram.specs.Invariant.{Invariant}
 use Rattle.diagram.specs.Restore.{RollbackEnsures, RollbackRequires}
@@ -13,7 +13,7 @@ use Rattle.diagram.specs.Tally.{Step}
 use Rattle.diagram.specs.Node.{capacity}
 use Rattle.diagram.specs.Operation.{RefinesCached}
 use Rattle.text.specs.Answer.{isNo, SmallAnswer}
-use Rattle.text.specs.Session.{Tally, emptyTally, most, settle}
+use Rattle.text.specs.Session.{Tally, emptyTally, atMost, settle}
 use Rattle.text.specs.Agrees.{Unchanged}
 use Rattle.text.specs.declared.engine.Engine.{Engine}
 use Rattle.text.specs.declared.answer.Answer.the-variants.{No}
@@ -43,7 +43,7 @@ pub record RefuseEnsures (e : Engine) (why : Refusal) (r : Reply) : Type 0 where
   pub engine : r .engine ≡ e
 
 -- "A call whose set would exceed the capacity is refused as 8 (full), and set and registers are as before it."
-pub record RollBackEnsures (c' s s' : List ℕ) (e : Engine) (r : Reply) : Type 0 where
+pub record RefuseFullEnsures (c' s s' : List ℕ) (e : Engine) (r : Reply) : Type 0 where
   pub answer : r .answer ≡ No Full
   pub restored : RollbackEnsures c' s s' (e .state) (r .engine .state)
   pub registers : r .engine .registers .all ≡ e .registers .all
@@ -70,7 +70,7 @@ pub record SettleRequires (c s : List ℕ) (st : State) (m : Outcome) : Type 0 w
 pub record SetsRegister (c' s s' : List ℕ) (e : Engine) (d : ℕ) (f : Step indices) (r : Reply) : Type 0 where
   pub invariant : EngineInvariant c' s' (r .engine)
   pub small : SmallAnswer (r .answer)
-  pub is : settle (most (capacity s)) d (f (setOf s (e .state))) (tallyOf s e) ≡ (r .answer, tallyOf s' (r .engine))
+  pub is : settle (atMost (capacity s)) d (f (setOf s (e .state))) (tallyOf s e) ≡ (r .answer, tallyOf s' (r .engine))
   pub refused : RefusedUnchanged s s' e r
   pub forgets : FullForgets c' r
 

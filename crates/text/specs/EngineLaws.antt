@@ -16,16 +16,16 @@ use Rattle.diagram.specs.InvariantLaws.{invariant-start, invariant-rollback, in
 use Rattle.diagram.specs.Tensor.{indices, constant}
 use Rattle.diagram.specs.Tally.{Step, return}
 use Rattle.diagram.specs.Node.{capacity}
-use Rattle.diagram.specs.Engine.{setOf, tensorOf, RefinesEdge, nodesOf, RefinesFull, Refines}
-use Rattle.diagram.specs.EngineLaws.{set-length, refines-fits, refines-stays}
+use Rattle.diagram.specs.Store.{setOf, tensorOf, RefinesEdge, nodesOf, RefinesFull, Refines}
+use Rattle.diagram.specs.StoreLaws.{set-length, refines-fits, refines-stays}
 use Rattle.diagram.specs.Operation.{RefinesCached}
 use Rattle.diagram.specs.OperationLaws.{cached-at}
 use Rattle.diagram.specs.Weights.{toWeight, modulus}
 use Rattle.diagram.specs.BuildLaws.{constant-valid, constant-tensor}
 use Rattle.text.specs.Answer.{isNo}
-use Rattle.text.specs.Session.{emptyTally, most, nodeCount, accept, settle, refuse}
+use Rattle.text.specs.Session.{emptyTally, atMost, nodeCount, accept, settle, refuse}
 use Rattle.text.specs.Agrees.{Unchanged}
-use Rattle.text.specs.Engine.{tallyOf, EngineStartEnsures, RefuseEnsures, RollBackEnsures, SetsRegister}
+use Rattle.text.specs.Engine.{tallyOf, EngineStartEnsures, RefuseEnsures, RefuseFullEnsures, SetsRegister}
 use Rattle.text.specs.Engine.{SettleEnsures}
 use Rattle.text.specs.Engine.{EngineInvariant, SettleRequires}
 use Rattle.text.specs.declared.engine.Engine.{Engine}
@@ -49,13 +49,13 @@ unfolding tallyOf emptyTally holdsAll holds
 engine-start-ensures {s' = s'} {e} f q = record { invariant = invariant-start f q; is = rw (start-set f, q) }
 
 -- a step that was done: register d is its edge, the others hold what they held
-settle-done : {s s' : List ℕ} {e : Engine} {t : State} {rs : Registers} (d : ℕ) {f : Step indices} {x : Edge}
+settle-edge : {s s' : List ℕ} {e : Engine} {t : State} {rs : Registers} (d : ℕ) {f : Step indices} {x : Edge}
     → RegistersValid (e .state .count) (e .registers .all)
     → RefinesEdge s s' (e .state) t f x → rs .all ≡ set (e .registers .all) d (filledWith x)
-    → settle (most (capacity s)) d (f (setOf s (e .state))) (tallyOf s e)
+    → settle (atMost (capacity s)) d (f (setOf s (e .state))) (tallyOf s e)
     ≡ (Ok (t .count), tallyOf s' (record { state = t; registers = rs }))
 unfolding settle accept nodeCount tallyOf holds tensorOf
-settle-done {s} {s'} {e} {t} d {x = x} g w q =
+settle-edge {s} {s'} {e} {t} d {x = x} g w q =
     let fit : length (setOf s' t) ≤ capacity s = rw (w .is) at (refines-fits w) in
     rw (
       w .is,
@@ -67,17 +67,17 @@ settle-done {s} {s'} {e} {t} d {x = x} g w q =
     )
 
 -- a step that did not fit: the nodes are as before it, and the registers
-settle-over : {s s₁ : List ℕ} (s' : List ℕ) {e : Engine} (n : Engine) (d : ℕ) {f : Step indices}
+settle-full : {s s₁ : List ℕ} (s' : List ℕ) {e : Engine} (n : Engine) (d : ℕ) {f : Step indices}
     → RefinesFull s s₁ (e .state) f → nodesOf s' (n .state) ≡ nodesOf s₁ (e .state)
     → n .registers .all ≡ e .registers .all
-    → settle (most (capacity s)) d (f (setOf s (e .state))) (tallyOf s e) ≡ (No Full, tallyOf s' n)
+    → settle (atMost (capacity s)) d (f (setOf s (e .state))) (tallyOf s e) ≡ (No Full, tallyOf s' n)
 unfolding settle refuse tallyOf setOf
-settle-over s' n d w q r = rw (lt-leb _ _ (w .full), r, q ∙ w .kept)
+settle-full s' n d w q r = rw (lt-leb _ _ (w .full), r, q ∙ w .kept)
 
-pub roll-back-ensures : {c' s s' : List ℕ} {e : Engine} {st : State} {rs : Registers} {r : Reply}
+pub refuse-full-ensures : {c' s s' : List ℕ} {e : Engine} {st : State} {rs : Registers} {r : Reply}
     → RollbackEnsures c' s s' (e .state) st → rs ≡ e .registers
-    → RefuseEnsures (record { state = st; registers = rs }) Full r → RollBackEnsures c' s s' e r
-roll-back-ensures {c'} {s} {s'} {e} b q f = record {
+    → RefuseEnsures (record { state = st; registers = rs }) Full r → RefuseFullEnsures c' s s' e r
+refuse-full-ensures {c'} {s} {s'} {e} b q f = record {
   answer = f .answer;
   restored = subst (λ (n : Engine). RollbackEnsures c' s s' (e .state) (n .state)) (sym (f .engine)) b;
   registers = ap (λ (n : Engine). n .registers .all) (f .engine) ∙ ap (λ (n : Registers). n .all) q;
@@ -94,7 +94,7 @@ unfolding nodesOf
 nodes-unchanged st st' p q = record { nodes = p; registers = q }
 
 pub settle-ensures-full : {c s c' s' : List ℕ} {e : Engine} {d : ℕ} {m : Outcome} {r : Reply} → m ≡ outcome.Full
-    → RollBackEnsures c' s s' e r → SettleEnsures c s c' s' e d m r
+    → RefuseFullEnsures c' s s' e r → SettleEnsures c s c' s' e d m r
 settle-ensures-full {c} {s} {c'} {s'} {e} {d} {m} {r} q b = record { on = on }
   where
     on : (c₀ s₀ : List ℕ) (f : Step indices) → EngineInvariant c₀ s₀ e → RefinesCached c s₀ s (e .state) f m
@@ -102,7 +102,7 @@ settle-ensures-full {c} {s} {c'} {s'} {e} {d} {m} {r} q b = record { on = on }
     on c₀ s₀ f p w = record {
       invariant = rw (b .registers) (invariant-rollback (p .registers) (b .restored));
       small = rw (b .answer) tt;
-      is = rw (b .answer) (settle-over s' (r .engine) d (cached-at f m w q .step) (b .restored .kept) (b .registers));
+      is = rw (b .answer) (settle-full s' (r .engine) d (cached-at f m w q .step) (b .restored .kept) (b .registers));
       refused = λ no. nodes-unchanged (e .state) (r .engine .state) (b .restored .kept
           ∙ cached-at f m w q .step .kept) (b .registers);
       forgets = λ full. b .restored .forgotten;
@@ -121,7 +121,7 @@ settle-ensures-edge {c} {s} {e} {d} {m} {x} {t} {rs} q b = record { on = on }
         record {
           invariant = invariant-cached p f m d b w q;
           small = omega (arith, n .step .sound .stored .numbered);
-          is = settle-done d (p .registers) (n .step) b;
+          is = settle-edge d (p .registers) (n .step) b;
           refused = λ no. absurd (false≢true no);
           forgets = never-full (Ok (t .count)) refl;
         }

@@ -7,7 +7,7 @@ use Rattle.text.specs.Number.{numberOf}
 use Rattle.text.specs.Args.{oneOrTwoNumbers, numbers}
 use Rattle.text.specs.Names.{known, oneQubit, twoQubits}
 use Rattle.text.specs.Call.{checkRange, checkApart, malformed, checkRegister}
-use Rattle.text.specs.declared.names.Named.{Named}
+use Rattle.text.specs.declared.names.NameResult.{NameResult}
 use Rattle.text.specs.declared.call.Refusal.the-variants.{Name}
 use Rattle.text.specs.declared.call.Call.{Call}
 use Rattle.text.specs.declared.number.Number.{Number}
@@ -18,10 +18,10 @@ use Rattle.text.specs.declared.number.Number.the-variants as number
 
 -- "`gate d name q`, or with a second qubit: build of the gate. Refuses 1, 2, 5 (name not below, or wrong count of
 -- qubits for it), 4, 6 (both qubits equal), 8."
-abbrev pub oneQubitCall : ℕ → ℕ → Named → Call
+abbrev pub oneQubitCall : ℕ → ℕ → NameResult → Call
 oneQubitCall d q name = known (call.Refused Name) name (λ g. checkRange q 0 lastQubit (call.Gate d g))
 
-abbrev pub twoQubitCall : ℕ → ℕ → ℕ → Named → Call
+abbrev pub twoQubitCall : ℕ → ℕ → ℕ → NameResult → Call
 twoQubitCall d p q name =
     known (call.Refused Name) name
     (λ g. checkRange p 0 lastQubit (checkRange q 0 lastQubit (checkApart p q (call.Gate d g))))

@@ -9,7 +9,7 @@ use Rattle.text.specs.Limits.{mostDigits, lastQubit, registerCount}
 use Rattle.text.specs.Number.{numberOf}
 use Rattle.text.specs.Args.{numbers}
 use Rattle.text.specs.Names.{oneQubit, twoQubits}
-use Rattle.text.specs.Call.{malformed, Ranged, checkRegister}
+use Rattle.text.specs.Call.{malformed, InRange, checkRegister}
 use Rattle.text.specs.Gate.{gateCallFields, gateCallOf, oneQubitCall, twoQubitCall}
 use Rattle.text.specs.Split.{fieldsAfter, Ends, part}
 use Rattle.text.specs.SplitLaws.{rest-none, rest-first}
@@ -36,25 +36,25 @@ pub gate-fields : {s : Bytes} {e f g : ℕ} → e < length s → Ends tab s (e +
 unfolding gateCallFields
 gate-fields h r n q = rw (rest-first h r, rest-first n q)
 
-one-ranged : (d q : ℕ) (name : Bytes) → d < registerCount → Ranged (oneQubitCall d q (oneQubit name q))
+one-ranged : (d q : ℕ) (name : Bytes) → d < registerCount → InRange (oneQubitCall d q (oneQubit name q))
 one-ranged d q name h =
-    known-placed Ranged _ _ tt (one-placed 8 name q) (λ g x. on-within q 0 lastQubit _ (λ l m. (h, x (omega arith))))
+    known-placed InRange _ _ tt (one-placed 8 name q) (λ g x. on-within q 0 lastQubit _ (λ l m. (h, x (omega arith))))
 
-two-ranged : (d p q : ℕ) (name : Bytes) → d < registerCount → Ranged (twoQubitCall d p q (twoQubits name p q))
+two-ranged : (d p q : ℕ) (name : Bytes) → d < registerCount → InRange (twoQubitCall d p q (twoQubits name p q))
 two-ranged d p q name h =
-    known-placed Ranged _ _ tt (two-placed 8 name p q)
+    known-placed InRange _ _ tt (two-placed 8 name p q)
     (λ g x. on-within p 0 lastQubit _ (λ l m. on-within q 0 lastQubit _
     (λ l' m'. on-apart p q _ (λ e. (h, x (omega arith, (omega arith, e)))))))
 
-gate-ranged : (d : Number) (name : Bytes) (qubits : Args) → Ranged (gateCallOf d name qubits)
+gate-ranged : (d : Number) (name : Bytes) (qubits : Args) → InRange (gateCallOf d name qubits)
 gate-ranged number.Malformed name qubits = tt
 gate-ranged (number.Of d) name qubits =
-    by-count Ranged _ _ (λ q. checkRegister d (oneQubitCall d q (oneQubit name q)))
+    by-count InRange _ _ (λ q. checkRegister d (oneQubitCall d q (oneQubit name q)))
     (λ p q. checkRegister d (twoQubitCall d p q (twoQubits name p q))) _ _ tt tt
     (λ q. on-register d _ (one-ranged d q name)) (λ p q. on-register d _ (two-ranged d p q name)) (λ a b c. tt)
     (λ a b c e. tt) qubits
 
-pub gate-fields-ranged : (fs : List Bytes) → Ranged (gateCallFields fs)
+pub gate-fields-ranged : (fs : List Bytes) → InRange (gateCallFields fs)
 unfolding gateCallFields
 gate-fields-ranged [] = tt
 gate-fields-ranged (d ∷ []) = tt

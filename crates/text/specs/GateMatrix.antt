@@ -29,7 +29,7 @@ pub record Wired (qs : List ℕ) (o i : BasisState) (x : Bits) (m : BasisState) 
   pub at-inputs : (q : ℕ) → x (input q) ≡ i q
   pub at-fresh : Each (λ q. x (fresh q) ≡ o q) qs
 
--- two tensors are equal exactly when their matrices are
+-- the assignment that has o at the middles and i at the inputs
 abbrev pub spread : BasisState → BasisState → Bits
 spread o i k = cond (eqb (k % 3) 1) (o (k / 3)) (i (k / 3))
 

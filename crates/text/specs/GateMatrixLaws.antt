@@ -17,8 +17,8 @@ use Rattle.diagram.specs.TabulateLaws.{bits-none}
 use Rattle.diagram.specs.SumOverLaws.{at-sumOver}
 use Rattle.diagram.specs.SumOver.{settings, sumOver}
 use Rattle.diagram.specs.TallyLowLaws.{rename-down-at}
-use Rattle.diagram.specs.BitsLaws.{assign-other, assign-at}
-use Rattle.diagram.specs.RingLaws.{at-times}
+use Rattle.diagram.specs.TensorBitsLaws.{assign-other, assign-at}
+use Rattle.diagram.specs.TensorRingLaws.{at-times}
 use Rattle.diagram.specs.GateLaws.{gate-at}
 use Rattle.text.specs.Names.{Placed}
 use Rattle.text.specs.Qubits.{Rising, qubitsOn, qubits, middles}
@@ -26,7 +26,7 @@ use Rattle.text.specs.Product.{BasisState, wires, gateMatrix, hasQubit, 
 use Rattle.text.specs.Apply.{renamedTensor, contractedTensor, appliedTensor}
 use Rattle.text.specs.GateMatrix.{Each, Masked, raised}
 use Rattle.text.specs.QubitsLaws.{gate-rising, bit-added, bit-other, placed-fits}
-use Rattle.text.specs.MatrixLaws.{others-sees, settings-beyond, cond-times, states-same, sum-collapse}
+use Rattle.text.specs.ProductMatrixLaws.{others-sees, settings-beyond, cond-times, states-same, sum-collapse}
 use Rattle.diagram.specs.declared.gate.Gate.{Gate}
 use Rattle.diagram.specs.declared.gate.Shape.{Shape}
 use Rattle.diagram.specs.declared.gate.Shape.the-variants.{One, Two}

@@ -11,7 +11,7 @@ use Rattle.text.specs.Line.{readLine}
 use Rattle.text.specs.Session.{Tally, TallyReply, TallyRun}
 use Rattle.text.specs.Check.{Reading, lists, fault}
 use Rattle.text.specs.Qubits.{qubits}
-use Rattle.text.specs.VerdictSession.{Numbered, sessionCalls, PerformResult, refusedAt, endedWith}
+use Rattle.text.specs.VerdictSession.{NumberedCall, sessionCalls, PerformResult, refusedAt, endedWith}
 use Rattle.text.specs.declared.call.Call.{Call}
 use Rattle.text.specs.declared.call.Call.the-variants as call
 
@@ -33,7 +33,7 @@ touches d (call.At a v) = true
 touches d (call.Cmp a b) = true
 touches d (call.Refused r) = true
 
-unfoldable pub allTouch : ℕ → List Numbered → Bool
+unfoldable pub allTouch : ℕ → List NumberedCall → Bool
 allTouch d [] = true
 allTouch d ((line, x) ∷ xs) = touches d x && allTouch d xs
 

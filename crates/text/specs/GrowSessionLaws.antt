@@ -15,7 +15,7 @@ use Rattle.diagram.specs.TallyGrowLaws.{grows-answer, collect-grow}
 use Rattle.diagram.specs.Gate.{shape, gateTensor, unitTensor, ShapeBelow, GateBelow}
 use Rattle.diagram.specs.TestLaws.{and-left, and-right}
 use Rattle.diagram.specs.Weights.{Weight, toWeight}
-use Rattle.diagram.specs.Tally.{Step, sum, cont, low, build, collect, filled, return}
+use Rattle.diagram.specs.Tally.{Step, sum, cont, low, build, collect, filledTensors, return}
 use Rattle.diagram.specs.Grow.{deeper, grow, MembersBelow, growAll, StepGrows}
 use Rattle.diagram.specs.GrowLaws.{grow-constant, grow-depends, grow-value, gate-grow, unit-grow}
 use Rattle.diagram.specs.CompareLaws.{grow-compared}
@@ -27,7 +27,7 @@ use Rattle.text.specs.Session.{settle, withTensor, withRegister, TallyRu
 use Rattle.text.specs.Session.{emptyTally, emptyRun, session}
 use Rattle.text.specs.Check.{Reading, lists, fault, readText}
 use Rattle.text.specs.Qubits.{qubitsOn, qubits}
-use Rattle.text.specs.VerdictSession.{Numbered, PerformResult, continueWith, perform, refusedAt, endedWith}
+use Rattle.text.specs.VerdictSession.{NumberedCall, PerformResult, continueWith, perform, refusedAt, endedWith}
 use Rattle.text.specs.VerdictSession.{rulingOfAnswer, rulingAtEnd, sessionCalls, rulingOfReading, rulingOn}
 use Rattle.text.specs.VerdictSession.{verdictResult}
 use Rattle.text.specs.GrowSession.{qubitsBelow, touches, allTouch, linesTouch, growRegister, growRegisters}
@@ -79,8 +79,8 @@ module _ {d : ℕ} (m : ℕ) where
   grow-set (x ∷ l) zero o = refl
   grow-set (x ∷ l) (suc r) o = ap (λ l. growRegister m x ∷ l) (grow-set l r o)
 
-  grow-filled : (l : List (Option (Tensor d))) → filled (growRegisters m l) ≡ growAll m (filled l)
-  unfolding filled growRegisters growRegister growAll
+  grow-filled : (l : List (Option (Tensor d))) → filledTensors (growRegisters m l) ≡ growAll m (filledTensors l)
+  unfolding filledTensors growRegisters growRegister growAll
   grow-filled [] = refl
   grow-filled (none ∷ l) = grow-filled l
   grow-filled (some T ∷ l) = ap (λ l. grow m T ∷ l) (grow-filled l)
@@ -111,20 +111,20 @@ module _ {d : ℕ} (m : ℕ) where
         record { nodes = s; registers = set (t .registers) r (some T) },
       ) (answers.No Full, t))
 
-  grow-holding : (o : Option (Tensor d)) (t : Tally d) (F : Tensor d → TallyReply d)
+  grow-with-tensor : (o : Option (Tensor d)) (t : Tally d) (F : Tensor d → TallyReply d)
       (G : Tensor (deeper d m) → TallyReply (deeper d m))
       → ((T : Tensor d) → G (grow m T) ≡ growReply m (F T))
       → withTensor (growRegister m o) (growTally m t) G ≡ growReply m (withTensor o t F)
   unfolding withTensor growRegister refuse
-  grow-holding none t F G h = refl
-  grow-holding (some T) t F G h = h T
+  grow-with-tensor none t F G h = refl
+  grow-with-tensor (some T) t F G h = h T
 
   grow-register : (t : Tally d) (a : ℕ) (F : Tensor d → TallyReply d)
       (G : Tensor (deeper d m) → TallyReply (deeper d m))
       → ((T : Tensor d) → G (grow m T) ≡ growReply m (F T))
       → withRegister (growTally m t) a G ≡ growReply m (withRegister t a F)
   unfolding withRegister growTally
-  grow-register t a F G h = rw (grow-get (t .registers) a) (grow-holding (getD (t .registers) a none) t F G h)
+  grow-register t a F G h = rw (grow-get (t .registers) a) (grow-with-tensor (getD (t .registers) a none) t F G h)
 
   -- each call
 
@@ -178,8 +178,8 @@ module _ {d : ℕ} (m : ℕ) where
       → answer c call.Collect (growTally m t) ≡ growReply m (answer c call.Collect t)
   unfolding answer growTally
   grow-collect c t =
-      rw (grow-filled (t .registers), collect-grow m (filled (t .registers)) (t .nodes))
-      (grow-accept (record { nodes = collect (filled (t .registers)) (t .nodes); registers = t .registers }))
+      rw (grow-filled (t .registers), collect-grow m (filledTensors (t .registers)) (t .nodes))
+      (grow-accept (record { nodes = collect (filledTensors (t .registers)) (t .nodes); registers = t .registers }))
 
   grow-at : (c : Capacity) (a v : ℕ) (t : Tally d)
       → answer c (call.At a v) (growTally m t) ≡ growReply m (answer c (call.At a v) t)
@@ -227,7 +227,7 @@ module _ {d : ℕ} (m : ℕ) where
   grow-continue line (answers.Factor w, t) f g h = h t
   grow-continue line (answers.Differ, t) f g h = h t
 
-  grow-perform : (c : Capacity) (xs : List Numbered) (t : Tally d) → allTouch d xs ≡ true
+  grow-perform : (c : Capacity) (xs : List NumberedCall) (t : Tally d) → allTouch d xs ≡ true
       → perform c xs (growTally m t) ≡ growResult m (perform c xs t)
   unfolding perform allTouch
   grow-perform c [] t e = refl

@@ -13,9 +13,9 @@ use Rattle.text.specs.Text.{Bytes, LF}
 use Rattle.text.specs.Limits.{mostQubits, verdictRoom}
 use Rattle.text.specs.Print.{written}
 use Rattle.text.specs.Answer.{SmallAnswer}
-use Rattle.text.specs.Session.{Capacity, answer, most}
+use Rattle.text.specs.Session.{Capacity, answer, atMost}
 use Rattle.text.specs.Check.{lists, readText, readLines, gateItems, GoodText, Reading, fault, checkedOf}
-use Rattle.text.specs.Check.{TextRead, RangedChecked}
+use Rattle.text.specs.Check.{TextRead, CheckResultInRange}
 use Rattle.text.specs.Ruling.{SmallRuling, RulingWritten}
 use Rattle.text.specs.VerdictSession.{rulingOfAnswer, perform, rulingAtEnd, listCalls, sessionCalls}
 use Rattle.text.specs.VerdictSession.{rulingOfReading, rulingOn, verdictResult}
@@ -24,7 +24,7 @@ use Rattle.text.specs.Respond.{PureEnsures}
 use Rattle.text.specs.Perform.{rulingFrom}
 use Rattle.text.specs.List.{rulingFromState, nextLine, GateList, gateList, GateLines, ListRequires}
 use Rattle.text.specs.List.{ListEnds, ListEnsures}
-use Rattle.text.specs.Judge.{CompareEnsures, SecondEnsures, JudgeEnsures, VerdictEnsures}
+use Rattle.text.specs.Judge.{CompareListsEnsures, SecondEnsures, JudgeEnsures, VerdictEnsures}
 use Rattle.text.specs.SplitLaws.{lines-none, ends-from}
 use Rattle.text.specs.PrintLaws.{written-none}
 use Rattle.text.specs.CheckListsLaws.{items-next, text-items, good-text}
@@ -38,8 +38,8 @@ use Rattle.diagram.specs.declared.gate.Gate.{Gate}
 use Rattle.text.specs.declared.check.Item.{Item}
 use Rattle.text.specs.declared.check.Fault.the-variants.{Full}
 use Rattle.text.specs.declared.ruling.Ruling.the-variants.{No}
-use Rattle.text.specs.declared.check.Checked.{Checked}
-use Rattle.text.specs.declared.check.Checked.the-variants.{Faulty, Good}
+use Rattle.text.specs.declared.check.CheckResult.{CheckResult}
+use Rattle.text.specs.declared.check.CheckResult.the-variants.{Faulty, Good}
 use Rattle.text.specs.declared.check.Fault.{Fault}
 use Rattle.text.specs.declared.ruling.VerdictResult.{VerdictResult}
 use Rattle.text.specs.declared.answer.Answer.the-variants as answers
@@ -59,9 +59,9 @@ small-ruling answers.Same h = tt
 small-ruling (answers.Factor f) h = h
 small-ruling answers.Differ h = tt
 
-pub compare-ensures : {e : Engine} {y : Reply} {r : Ruling} → PureEnsures e (call.Cmp 0 1) y
-    → r ≡ rulingOfAnswer (y .answer) → CompareEnsures e r
-compare-ensures {y = y} w q = record {
+pub compare-lists-ensures : {e : Engine} {y : Reply} {r : Ruling} → PureEnsures e (call.Cmp 0 1) y
+    → r ≡ rulingOfAnswer (y .answer) → CompareListsEnsures e r
+compare-lists-ensures {y = y} w q = record {
   on = λ c s p. q ∙ ap (λ z. rulingOfAnswer (z .0)) (sym (w .on s .on c p .is));
   small = λ c s p. subst SmallRuling (sym q) (small-ruling (y .answer) (w .on s .on c p .small));
 }
@@ -75,21 +75,25 @@ ruling-end c s x q = rw q
 
 module _ {l : GateList} {s c' s' : List ℕ} {a x : ListState} (w : ListEnsures l s c' s' a x) where
   through : (hs : List Gate) (rest : List Item) → GateLines l (nextLine (l .text) (a .place)) hs rest
-      → rulingFromState (most (capacity s)) [] s' x
-      ≡ rulingFromState (most (capacity s)) (listCalls (l .register) (l .qubits) (a .line + 1) hs) s a
+      → rulingFromState (atMost (capacity s)) [] s' x
+      ≡ rulingFromState (atMost (capacity s)) (listCalls (l .register) (l .qubits) (a .line + 1) hs) s a
   through hs rest ls =
       sym (w .performs hs rest ls .is [])
-      ∙ ap (λ calls. rulingFromState (most (capacity s)) calls s a)
+      ∙ ap (λ calls. rulingFromState (atMost (capacity s)) calls s a)
       (append-nil (listCalls (l .register) (l .qubits) (a .line + 1) hs))
 
   pub second-refused : x .refused ≡ true → SecondEnsures l s a (No Full (x .line))
   second-refused q =
-      record { is = λ hs rest ls. sym (ruling-refused (most (capacity s)) [] s' x q) ∙ through hs rest ls; small = tt }
+      record {
+        is = λ hs rest ls. sym (ruling-refused (atMost (capacity s)) [] s' x q) ∙ through hs rest ls;
+        small = tt;
+      }
 
-  pub second-ensures : {r : Ruling} → length s' ≡ length s → x .refused ≡ false → CompareEnsures (x .engine) r
+  pub second-ensures : {r : Ruling} → length s' ≡ length s → x .refused ≡ false → CompareListsEnsures (x .engine) r
       → SecondEnsures l s a r
   second-ensures {r} m q u = record {
-    is = λ hs rest ls. u .on c' s' (w .invariant) ∙ (rw m (ruling-end (most (capacity s)) s' x q)) ∙ through hs rest ls;
+    is = λ hs rest ls. u .on c' s' (w .invariant) ∙ (rw m (ruling-end (atMost (capacity s)) s' x q)) ∙ through hs rest
+        ls;
     small = u .small c' s' (w .invariant);
   }
 
@@ -121,7 +125,7 @@ module _ {text : Bytes} {n parting count : ℕ} (g : GoodText text n parting cou
 
   pub first-ahead : {e : Engine} → ListRequires firstGates (record { refused = false; line = 0; place = 0; engine = e })
   first-ahead = record {
-    headed = record { going = refl; inside = text-some text (g .text); passed = omega arith };
+    ahead = record { not-refused = refl; inside = text-some text (g .text); passed = omega arith };
     first = g .first;
     rest = tail;
     are = first-lines;
@@ -130,8 +134,8 @@ module _ {text : Bytes} {n parting count : ℕ} (g : GoodText text n parting cou
   module _ {c₁ s₁ c' s' : List ℕ} {e : Engine} {x : ListState} (b : EngineStartEnsures c₁ s₁ e)
       (w : ListEnsures firstGates s₁ c' s' (record { refused = false; line = 0; place = 0; engine = e }) x) where
     -- the verdict, from where the first list ends
-    whole : rulingOn indices (most (capacity s₁)) text
-        ≡ rulingFromState (most (capacity s₁)) (listCalls 1 n (length (g .first) + 2) (g .second)) s' x
+    whole : rulingOn indices (atMost (capacity s₁)) text
+        ≡ rulingFromState (atMost (capacity s₁)) (listCalls 1 n (length (g .first) + 2) (g .second)) s' x
     unfolding rulingOn rulingOfReading sessionCalls rulingFromState rulingFrom
     whole = rw (g .text, ← b .is) (w .performs (g .first) tail first-lines .is
         (listCalls 1 n (length (g .first) + 2) (g .second)))
@@ -139,7 +143,7 @@ module _ {text : Bytes} {n parting count : ℕ} (g : GoodText text n parting cou
     pub first-refused : {s : List ℕ} → length s₁ ≡ length s → x .refused ≡ true
         → JudgeEnsures text s (No Full (x .line))
     first-refused l q =
-        record { is = rw (← l) (sym (whole ∙ ruling-refused (most (capacity s₁)) _ s' x q)); small = tt }
+        record { is = rw (← l) (sym (whole ∙ ruling-refused (atMost (capacity s₁)) _ s' x q)); small = tt }
 
     module _ (q : x .refused ≡ false) where
       first-done : ListEnds firstGates (1 + (parting - 2)) tail (record {
@@ -161,8 +165,8 @@ module _ {text : Bytes} {n parting count : ℕ} (g : GoodText text n parting cou
 
       pub second-ahead : ListRequires secondGates x
       second-ahead = record {
-        headed = record {
-          going = q;
+        ahead = record {
+          not-refused = q;
           inside = items-next n text (x .place) (first-done .next) .inside;
           passed = w .passed;
         };
@@ -182,27 +186,27 @@ module _ {text : Bytes} {n parting count : ℕ} (g : GoodText text n parting cou
 
 -- a faulty text
 
-pub judge-faulty : {text : Bytes} {s : List ℕ} {f : Fault} {line : ℕ} {k : Checked} → TextRead text k
+pub judge-faulty : {text : Bytes} {s : List ℕ} {f : Fault} {line : ℕ} {k : CheckResult} → TextRead text k
     → k ≡ Faulty f line → JudgeEnsures text s (No f line)
 unfolding rulingOn rulingOfReading
 judge-faulty {text} {s} {f} {line} c q = record { is = go (readText text) refl (sym q ∙ c .checked); small = tt }
   where
     go : (r : Reading) → readText text ≡ r → Faulty f line ≡ checkedOf r
-        → No f line ≡ rulingOfReading indices (most (capacity s)) (readText text)
+        → No f line ≡ rulingOfReading indices (atMost (capacity s)) (readText text)
     go (lists n gs hs) e z = absurd (let o : _≡_ {A = ℕ} 0 1 = cc in omega arith)
     go (fault g at) e z = rw e (let o : f ≡ g = cc in let p : line ≡ at = cc in rw (o, p))
 
-pub checked-good : {text : Bytes} {n parting count : ℕ} {k : Checked} → TextRead text k → k ≡ Good n parting count
+pub checked-good : {text : Bytes} {n parting count : ℕ} {k : CheckResult} → TextRead text k → k ≡ Good n parting count
     → GoodText text n parting count
 checked-good {text} c q = good-text text (sym q ∙ c .checked)
 
-pub checked-least : {text : Bytes} {n parting count : ℕ} {k : Checked} → TextRead text k → k ≡ Good n parting count
+pub checked-least : {text : Bytes} {n parting count : ℕ} {k : CheckResult} → TextRead text k → k ≡ Good n parting count
     → 1 ≤ n
-checked-least c q = subst RangedChecked q (c .ranged) .0
+checked-least c q = subst CheckResultInRange q (c .ranged) .0
 
-pub checked-most : {text : Bytes} {n parting count : ℕ} {k : Checked} → TextRead text k → k ≡ Good n parting count
+pub checked-most : {text : Bytes} {n parting count : ℕ} {k : CheckResult} → TextRead text k → k ≡ Good n parting count
     → n ≤ mostQubits
-checked-most c q = subst RangedChecked q (c .ranged) .1
+checked-most c q = subst CheckResultInRange q (c .ranged) .1
 
 -- the answer
 
@@ -231,5 +235,5 @@ pub verdict-within : {text : Bytes} {s : List ℕ} {o o' : Bytes} {r : VerdictRe
     → r .bytes ≤ length o'
 unfolding written
 verdict-within {text} {s} {o} g =
-    let b : Bytes = verdictResult indices (most (capacity s)) (length o) text .1 in
+    let b : Bytes = verdictResult indices (atMost (capacity s)) (length o) text .1 in
     rw (g .output) (omega (arith, g .bytes, length-append b (drop (0 + length b) o)))

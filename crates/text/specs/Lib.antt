@@ -53,17 +53,17 @@ pub mod CheckLaws
 pub mod CheckTextLaws
 pub mod CheckListsLaws
 pub mod RulingLaws
-pub mod DecimalLaws
+pub mod PrintDecimalLaws
 pub mod RulingBytesLaws
 -- laws of the tally, of a verdict's session and of what it means
 pub mod SessionLaws
 pub mod CompleteLaws
 pub mod QubitsLaws
 pub mod ApplyLaws
-pub mod GateCallsLaws
+pub mod ApplyCallsLaws
 pub mod RunsLaws
 pub mod VerdictSessionLaws
-pub mod MatrixLaws
+pub mod ProductMatrixLaws
 pub mod GateMatrixLaws
 pub mod ProductLaws
 pub mod VerdictMeaningLaws

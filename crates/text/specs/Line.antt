@@ -6,7 +6,7 @@ use Rattle.text.specs.Text.{Bytes, bytes, sameBytes, fields}
 use Rattle.text.specs.Limits.{mostDigits}
 use Rattle.text.specs.Words.{wordOf}
 use Rattle.text.specs.Args.{numbers}
-use Rattle.text.specs.Call.{malformed, callOf, Ranged}
+use Rattle.text.specs.Call.{malformed, callOf, InRange}
 use Rattle.text.specs.Gate.{gateCallFields}
 use Rattle.text.specs.declared.args.Args.the-variants.{None}
 use Rattle.text.specs.declared.call.Call.{Call}
@@ -23,4 +23,4 @@ readLine line = callFields (fields line)
 -- what is read off a line is the definition's, and in range
 pub record LineRead (line : Bytes) (r : Call) : Type 0 where
   pub call : r ≡ readLine line
-  pub ranged : Ranged r
+  pub ranged : InRange r

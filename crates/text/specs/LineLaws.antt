@@ -8,7 +8,7 @@ use Rattle.text.specs.Text.{Bytes, bytes, tab, sameBytes, fields}
 use Rattle.text.specs.Limits.{mostDigits}
 use Rattle.text.specs.Words.{wordOf}
 use Rattle.text.specs.Args.{numbers}
-use Rattle.text.specs.Call.{callOf, Ranged}
+use Rattle.text.specs.Call.{callOf, InRange}
 use Rattle.text.specs.Gate.{gateCallFields}
 use Rattle.text.specs.Line.{callFields, readLine, LineRead}
 use Rattle.text.specs.Split.{part, Ends, fieldsAfter}
@@ -28,16 +28,16 @@ pub line-other : {s : Bytes} {e : ℕ} → Ends tab s 0 e → sameBytes (part s 
 unfolding readLine callFields
 line-other r t = rw (fields-first (omega arith) r, t)
 
-fields-ranged : (fs : List Bytes) → Ranged (callFields fs)
+fields-ranged : (fs : List Bytes) → InRange (callFields fs)
 unfolding callFields
 fields-ranged [] = tt
 fields-ranged (w ∷ fs) = go (sameBytes w (bytes "gate"))
   where
-    go : (t : Bool) → Ranged (cond t (gateCallFields fs) (callOf (wordOf w) (numbers mostDigits None fs)))
+    go : (t : Bool) → InRange (cond t (gateCallFields fs) (callOf (wordOf w) (numbers mostDigits None fs)))
     go true = gate-fields-ranged fs
     go false = call-ranged (wordOf w) (numbers mostDigits None fs)
 
-pub line-ranged : (line : Bytes) → Ranged (readLine line)
+pub line-ranged : (line : Bytes) → InRange (readLine line)
 unfolding readLine
 line-ranged line = fields-ranged (fields line)
 

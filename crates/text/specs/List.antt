@@ -6,9 +6,9 @@ use Prim.Native.Nat.{ℕ, _+_, _≤_, _<_}
 use lib.ListN.{length, drop}
 use Rattle.diagram.specs.Node.{capacity}
 use Rattle.text.specs.Text.{Bytes, LF, lines}
-use Rattle.text.specs.Session.{Capacity, most}
+use Rattle.text.specs.Session.{Capacity, atMost}
 use Rattle.text.specs.Check.{itemOf, items, gateItems}
-use Rattle.text.specs.VerdictSession.{Numbered, gateCalls, atLine, gatesCalls, listCalls}
+use Rattle.text.specs.VerdictSession.{NumberedCall, gateCalls, atLine, gatesCalls, listCalls}
 use Rattle.text.specs.Split.{endFrom, part}
 use Rattle.text.specs.Engine.{EngineInvariant}
 use Rattle.text.specs.Perform.{rulingFrom}
@@ -23,15 +23,15 @@ use Rattle.text.specs.declared.check.Item.the-variants as item
 abbrev pub listStateOf : PerformState → ℕ → ℕ → ListState
 listStateOf r line place = record { refused = r .refused; line = line; place = place; engine = r .engine }
 
--- the verdict that is come to from here, where these calls follow
-unfoldable pub rulingFromState : Capacity → List Numbered → List ℕ → ListState → Ruling
+-- the final ruling from here, where these calls follow
+unfoldable pub rulingFromState : Capacity → List NumberedCall → List ℕ → ListState → Ruling
 rulingFromState c more s x = rulingFrom c (x .line) more s (record { refused = x .refused; engine = x .engine })
 
 -- the calls xs were run, whatever follows
-pub record PerformsLines (s c' s' : List ℕ) (a : ListState) (xs : List Numbered) (x : ListState) : Type 0 where
+pub record PerformsLines (s c' s' : List ℕ) (a : ListState) (xs : List NumberedCall) (x : ListState) : Type 0 where
   pub invariant : EngineInvariant c' s' (x .engine)
-  pub is : (more : List Numbered)
-      → rulingFromState (most (capacity s)) (xs ++ more) s a ≡ rulingFromState (most (capacity s)) more s' x
+  pub is : (more : List NumberedCall)
+      → rulingFromState (atMost (capacity s)) (xs ++ more) s a ≡ rulingFromState (atMost (capacity s)) more s' x
 
 -- where the next line begins
 abbrev pub nextLine : Bytes → ℕ → ℕ
@@ -39,28 +39,28 @@ nextLine text place = endFrom LF text place + 1
 
 -- a line is at hand, and none was refused
 pub record LineAhead (text : Bytes) (a : ListState) : Type 0 where
-  pub going : a .refused ≡ false
+  pub not-refused : a .refused ≡ false
   pub inside : a .place < length text
   pub passed : a .line ≤ a .place
 
 -- the line was run
-pub record LineDone (text : Bytes) (a x : ListState) : Type 0 where
+pub record LinePassed (text : Bytes) (a x : ListState) : Type 0 where
   pub place : x .place ≡ nextLine text (a .place)
   pub line : x .line ≡ a .line + 1
   pub passed : x .line ≤ x .place
 
 pub record OpenEnsures (text : Bytes) (n r : ℕ) (s c' s' : List ℕ) (a x : ListState) : Type 0 where
-  pub moved : LineDone text a x
+  pub passes : LinePassed text a x
   pub performs : PerformsLines s c' s' a ((a .line + 1, call.Unit r n) ∷ []) x
 
 -- the line at hand is a gate line
 pub record GateRequires (text : Bytes) (n : ℕ) (a : ListState) : Type 0 where
-  pub headed : LineAhead text a
+  pub ahead : LineAhead text a
   pub gate : Gate
   pub is : itemOf n (part text (a .place) (endFrom LF text (a .place))) ≡ item.Gate gate
 
 pub record GateEnsures (text : Bytes) (n r : ℕ) (s c' s' : List ℕ) (a x : ListState) : Type 0 where
-  pub moved : LineDone text a x
+  pub passes : LinePassed text a x
   pub performs : (g : Gate) → itemOf n (part text (a .place) (endFrom LF text (a .place))) ≡ item.Gate g
       → PerformsLines s c' s' a (atLine (a .line + 1) (gateCalls r g)) x
 
@@ -92,7 +92,7 @@ pub record GatesRequires (l : GateList) (a : ListState) : Type 0 where
 
 -- the list's head line is at hand, and its gate lines after it
 pub record ListRequires (l : GateList) (a : ListState) : Type 0 where
-  pub headed : LineAhead (l .text) a
+  pub ahead : LineAhead (l .text) a
   pub first : List Gate
   pub rest : List Item
   pub are : GateLines l (nextLine (l .text) (a .place)) first rest
@@ -102,7 +102,7 @@ pub record ListRequires (l : GateList) (a : ListState) : Type 0 where
 pub record ListPart : Type 0 where
   pub place : ℕ
   pub count : ℕ
-  pub calls : List Gate → List Numbered
+  pub calls : List Gate → List NumberedCall
 
 abbrev pub gatesPart : GateList → ListState → ListPart
 gatesPart l a = record { place = a .place; count = l .count; calls = gatesCalls (l .register) (a .line + 1) }
@@ -142,9 +142,9 @@ pub record GatesReached (l : GateList) (a : ListState) (s₀ : List ℕ) (gs : L
   pub left : List Gate
   pub counted : p .line + length left ≡ a .line + l .count
   pub next : itemsFrom l (p .place) ≡ gateItems left ++ rest
-  pub is : (more : List Numbered)
-      → rulingFromState (most (capacity s₀)) (gatesCalls (l .register) (a .line + 1) gs ++ more) s₀ a
-      ≡ rulingFromState (most (capacity s₀)) (gatesCalls (l .register) (p .line + 1) left ++ more) s p
+  pub is : (more : List NumberedCall)
+      → rulingFromState (atMost (capacity s₀)) (gatesCalls (l .register) (a .line + 1) gs ++ more) s₀ a
+      ≡ rulingFromState (atMost (capacity s₀)) (gatesCalls (l .register) (p .line + 1) left ++ more) s p
 
 pub record GatesLoop (l : GateList) (a : ListState) (s₀ c s : List ℕ) (i : ℕ) (p : ListState) : Type 0 where
   pub invariant : EngineInvariant c s (p .engine)

@@ -4,12 +4,13 @@ use mathlib.Core.Logic.{_≢_}
 use Prim.Native.Nat.{ℕ, _<_}
 use Rattle.text.specs.Text.{Bytes, sameBytes}
 use Rattle.text.specs.Names.{PlacedName, chooseName, Placed, oneQubit, twoQubits, known}
-use Rattle.text.specs.declared.names.Named.{Named}
+use Rattle.text.specs.declared.names.NameResult.{NameResult}
 use Rattle.diagram.specs.declared.gate.Gate.{Gate as Gate'}
-use Rattle.text.specs.declared.names.Named.the-variants as named
+use Rattle.text.specs.declared.names.NameResult.the-variants as named
 use Rattle.diagram.specs.declared.gate.Gate.the-variants as gate
 
-choose-placed : {n : ℕ} {condition : Type 0} (s name : Bytes) (g : Gate') (other : Named) → (condition → Placed n g)
+choose-placed : {n : ℕ} {condition : Type 0} (s name : Bytes) (g : Gate') (other : NameResult)
+    → (condition → Placed n g)
     → PlacedName n condition other
     → PlacedName n condition (chooseName s name g other)
 unfolding chooseName
@@ -42,7 +43,7 @@ two-placed n s p q =
 
 -- so what a line says of it may count on that
 pub known-placed : {A : Type 0} (P : A → Type 0) (wrong : A) (next : Gate' → A) {n : ℕ} {condition : Type 0}
-    {name : Named} → P wrong
+    {name : NameResult} → P wrong
     → PlacedName n condition name
     → ((g : Gate') → (condition → Placed n g) → P (next g)) → P (known wrong name next)
 known-placed P wrong next {name = named.Unknown} p x f = p

@@ -10,13 +10,13 @@ use Rattle.text.specs.declared.number.Number.{Number}
 use Rattle.text.specs.declared.number.Number.the-variants.{Malformed, Of}
 
 -- "Decimal digits throughout."
-unfoldable pub digit : ℕ → Bool
-digit x = leb 48 x && leb x 57
+unfoldable pub isDigit : ℕ → Bool
+isDigit x = leb 48 x && leb x 57
 
 -- the number that v and the digits after it make
 unfoldable pub digitsFrom : ℕ → Bytes → Number
 digitsFrom v [] = Of v
-digitsFrom v (x ∷ s) = cond (digit x) (digitsFrom (10 * v + (x - 48)) s) Malformed
+digitsFrom v (x ∷ s) = cond (isDigit x) (digitsFrom (10 * v + (x - 48)) s) Malformed
 
 -- a leading zero is needless where anything stands after it
 unfoldable pub needless : Bytes → Bool
@@ -29,7 +29,7 @@ unfoldable pub numberOf : ℕ → Bytes → Number
 numberOf most s = cond (leb 1 (length s) && leb (length s) most && not (needless s)) (digitsFrom 0 s) Malformed
 
 -- `digits` has read i digits, which make v
-pub record DigitsLoop (s : Bytes) (v i : ℕ) : Type 0 where
+pub record ReadDigitsLoop (s : Bytes) (v i : ℕ) : Type 0 where
   pub within : i ≤ length s
   pub small : v < 10 ^ i
   pub same : digitsFrom v (drop i s) ≡ digitsFrom 0 s

@@ -12,52 +12,54 @@ use borrow.Author.Tests.{le-leb, lt-leb}
 use lib.Dec.{eqb, leb}
 use Rattle.text.specs.Text.{Bytes}
 use Rattle.text.specs.Limits.{mostDigits}
-use Rattle.text.specs.Number.{digit, digitsFrom, DigitsLoop, needless, numberOf}
+use Rattle.text.specs.Number.{isDigit, digitsFrom, ReadDigitsLoop, needless, numberOf}
 use Rattle.text.specs.declared.number.Number.the-variants.{Malformed, Of}
 
 digits-on : (v : ℕ) (s : Bytes) (i : ℕ) → i < length s → 48 ≤ getD s i 0 → getD s i 0 ≤ 57
     → digitsFrom v (drop i s) ≡ digitsFrom (10 * v + (getD s i 0 - 48)) (drop (i + 1) s)
-unfolding digitsFrom digit
+unfolding digitsFrom isDigit
 digits-on v s i h p q = rw (drop-cons s i 0 h, le-leb 48 (getD s i 0) p, le-leb (getD s i 0) 57 q, add-one i)
 
 digits-below : (v : ℕ) (s : Bytes) (i : ℕ) → i < length s → getD s i 0 < 48 → digitsFrom v (drop i s) ≡ Malformed
-unfolding digitsFrom digit
+unfolding digitsFrom isDigit
 digits-below v s i h p = rw (drop-cons s i 0 h, lt-leb 48 (getD s i 0) p)
 
 digits-above : (v : ℕ) (s : Bytes) (i : ℕ) → i < length s → 57 < getD s i 0 → digitsFrom v (drop i s) ≡ Malformed
-unfolding digitsFrom digit
+unfolding digitsFrom isDigit
 digits-above v s i h p = rw (drop-cons s i 0 h, le-leb 48 (getD s i 0) (omega arith), lt-leb (getD s i 0) 57 p)
 
 digits-end : (v : ℕ) (s : Bytes) (i : ℕ) → length s ≤ i → digitsFrom v (drop i s) ≡ Of v
 unfolding digitsFrom
 digits-end v s i h = rw (drop-of-length-le s h)
 
-pub digits-loop-start : {s : Bytes} → DigitsLoop s 0 0
-digits-loop-start = record { within = omega arith; small = omega arith; same = refl }
+pub read-digits-loop-start : {s : Bytes} → ReadDigitsLoop s 0 0
+read-digits-loop-start = record { within = omega arith; small = omega arith; same = refl }
 
-pub digits-loop-next : {s : Bytes} {v i : ℕ} → DigitsLoop s v i → i < length s → 48 ≤ getD s i 0 → getD s i 0 ≤ 57
-    → DigitsLoop s (10 * v + (getD s i 0 - 48)) (i + 1)
-digits-loop-next {s} {v} {i} r h p q =
+pub read-digits-loop-next : {s : Bytes} {v i : ℕ} → ReadDigitsLoop s v i → i < length s → 48 ≤ getD s i 0 → getD s i 0
+    ≤ 57
+    → ReadDigitsLoop s (10 * v + (getD s i 0 - 48)) (i + 1)
+read-digits-loop-next {s} {v} {i} r h p q =
     record {
       within = omega arith;
       small = rw (add-one i, pow-suc 10 i) (omega arith);
       same = sym (digits-on v s i h p q) ∙ r .same;
     }
 
-pub digits-loop-small : {s : Bytes} {v i : ℕ} → DigitsLoop s v i → i < length s → length s ≤ mostDigits → v < 100000000
-digits-loop-small {s} {v} {i} r h p =
+pub read-digits-loop-small : {s : Bytes} {v i : ℕ} → ReadDigitsLoop s v i → i < length s → length s ≤ mostDigits → v
+    < 100000000
+read-digits-loop-small {s} {v} {i} r h p =
     omega (arith, pow-le-pow-right {n = 10} (omega arith) {i = i} {j = 8} (omega arith), r .small)
 
-pub digits-loop-below : {s : Bytes} {v i : ℕ} → DigitsLoop s v i → i < length s → getD s i 0 < 48
+pub read-digits-loop-below : {s : Bytes} {v i : ℕ} → ReadDigitsLoop s v i → i < length s → getD s i 0 < 48
     → Malformed ≡ digitsFrom 0 s
-digits-loop-below {s} {v} {i} r h p = sym (digits-below v s i h p) ∙ r .same
+read-digits-loop-below {s} {v} {i} r h p = sym (digits-below v s i h p) ∙ r .same
 
-pub digits-loop-above : {s : Bytes} {v i : ℕ} → DigitsLoop s v i → i < length s → 57 < getD s i 0
+pub read-digits-loop-above : {s : Bytes} {v i : ℕ} → ReadDigitsLoop s v i → i < length s → 57 < getD s i 0
     → Malformed ≡ digitsFrom 0 s
-digits-loop-above {s} {v} {i} r h p = sym (digits-above v s i h p) ∙ r .same
+read-digits-loop-above {s} {v} {i} r h p = sym (digits-above v s i h p) ∙ r .same
 
-pub digits-loop-end : {s : Bytes} {v i : ℕ} → DigitsLoop s v i → length s ≤ i → Of v ≡ digitsFrom 0 s
-digits-loop-end {s} {v} {i} r h = sym (digits-end v s i h) ∙ r .same
+pub read-digits-loop-end : {s : Bytes} {v i : ℕ} → ReadDigitsLoop s v i → length s ≤ i → Of v ≡ digitsFrom 0 s
+read-digits-loop-end {s} {v} {i} r h = sym (digits-end v s i h) ∙ r .same
 
 pub short-plain : (s : Bytes) → length s < 2 → false ≡ needless s
 unfolding needless

@@ -6,9 +6,9 @@ use Prim.Native.Nat.{ℕ, _-_}
 use Rattle.diagram.specs.Tensor.{depends}
 use Rattle.diagram.specs.Tally.{low}
 use Rattle.diagram.specs.Node.{capacity}
-use Rattle.diagram.specs.Engine.{setOf, tensorOf}
+use Rattle.diagram.specs.Store.{setOf, tensorOf}
 use Rattle.text.specs.Answer.{SmallAnswer}
-use Rattle.text.specs.Session.{most, refuse, settle}
+use Rattle.text.specs.Session.{atMost, refuse, settle}
 use Rattle.text.specs.Engine.{tallyOf, RefusedUnchanged, FullForgets, EngineInvariant}
 use Rattle.diagram.specs.declared.node.Edge.{Edge}
 use Rattle.text.specs.declared.call.Refusal.the-variants.{Depends}
@@ -21,7 +21,7 @@ pub record LowEnsures (c' s s' : List ℕ) (e : Engine) (d k : ℕ) (x : Edge) (
   pub invariant : EngineInvariant c' s' (r .engine)
   pub small : SmallAnswer (r .answer)
   pub is : cond (depends (k - 1) (tensorOf s (e .state) x)) (refuse Depends (tallyOf s e))
-      (settle (most (capacity s)) d (low k (tensorOf s (e .state) x) (setOf s (e .state))) (tallyOf s e))
+      (settle (atMost (capacity s)) d (low k (tensorOf s (e .state) x) (setOf s (e .state))) (tallyOf s e))
       ≡ (r .answer, tallyOf s' (r .engine))
   pub refused : RefusedUnchanged s s' e r
   pub forgets : FullForgets c' r

@@ -6,13 +6,13 @@ use Prim.Native.Nat.{ℕ, _-_, _+_, _≤_}
 use native.Mathlib.Omega.{arith}
 use Rattle.diagram.specs.Node.{SameRecords, capacity, listed}
 use Rattle.diagram.specs.NodeLaws.{same-records-node}
-use Rattle.diagram.specs.Engine.{setOf, tensorOf}
-use Rattle.diagram.specs.EngineLaws.{same-records-set, same-records-nodes, same-records-tensor}
+use Rattle.diagram.specs.Store.{setOf, tensorOf}
+use Rattle.diagram.specs.StoreLaws.{same-records-set, same-records-nodes, same-records-tensor}
 use Rattle.diagram.specs.Tensor.{depends}
 use Rattle.diagram.specs.Tally.{low}
 use Rattle.diagram.specs.Depends.{DependsEnsures}
 use Rattle.diagram.specs.InvariantLaws.{invariant-depends}
-use Rattle.text.specs.Session.{most, refuse, settle}
+use Rattle.text.specs.Session.{atMost, refuse, settle}
 use Rattle.text.specs.Agrees.{Unchanged}
 use Rattle.text.specs.Engine.{tallyOf, RefuseEnsures, SetsRegister, EngineInvariant}
 use Rattle.text.specs.Operate.{LowEnsures}
@@ -64,8 +64,8 @@ module _ {s s₁ : List ℕ} {e : Engine} {d k j : ℕ} {x : Edge} {b : Bool} {r
   }
     where
       lowered : cond (depends (k - 1) (tensorOf s (e .state) x)) (refuse Depends (tallyOf s e))
-          (settle (most (capacity s)) d (low k (tensorOf s (e .state) x) (setOf s (e .state))) (tallyOf s e))
-          ≡ settle (most (capacity s₁)) d (low k (tensorOf s₁ (e .state) x) (setOf s₁ (e .state))) (tallyOf s₁ e)
+          (settle (atMost (capacity s)) d (low k (tensorOf s (e .state) x) (setOf s (e .state))) (tallyOf s e))
+          ≡ settle (atMost (capacity s₁)) d (low k (tensorOf s₁ (e .state) x) (setOf s₁ (e .state))) (tallyOf s₁ e)
       lowered =
           rw (
             ← m,

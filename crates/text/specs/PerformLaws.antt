@@ -9,7 +9,7 @@ use Rattle.diagram.specs.Tensor.{indices, indices-count}
 use Rattle.diagram.specs.Node.{capacity}
 use Rattle.diagram.specs.Invariant.{heldTensor}
 use Rattle.diagram.specs.InvariantLaws.{invariant-collect, read-valid, holds-read}
-use Rattle.diagram.specs.Engine.{setOf, tensorOf}
+use Rattle.diagram.specs.Store.{setOf, tensorOf}
 use Rattle.diagram.specs.Registers.{emptyRegister, holds, GetEnsures, RegistersValid}
 use Rattle.diagram.specs.RegistersLaws.{holds-set, holds-length}
 use Rattle.diagram.specs.Collect.{CollectEnsures}
@@ -17,14 +17,14 @@ use Rattle.diagram.specs.Meaning.{Valid}
 use Rattle.text.specs.Limits.{mostQubits, registerCount}
 use Rattle.text.specs.Names.{Placed}
 use Rattle.text.specs.Answer.{isNo}
-use Rattle.text.specs.Session.{Capacity, Tally, most}
+use Rattle.text.specs.Session.{Capacity, Tally, atMost}
 use Rattle.text.specs.VerdictSession.{PerformResult, continueWith, rulingAtEnd, atLine, perform, gateCalls}
 use Rattle.text.specs.Engine.{EngineInvariant, tallyOf, SetsRegister}
 use Rattle.text.specs.Respond.{RespondEnsures}
 use Rattle.text.specs.Apply.{dropCollect, applyStep}
 use Rattle.text.specs.Perform.{rulingFrom, PerformsCalls, DropCollectEnsures, FinishEnsures}
 use Rattle.text.specs.QubitsLaws.{gate-rising}
-use Rattle.text.specs.GateCallsLaws.{gate-performs, gate-empty}
+use Rattle.text.specs.ApplyCallsLaws.{gate-performs, gate-empty}
 use Rattle.text.specs.declared.answer.Answer.{Answer}
 use Rattle.text.specs.declared.ruling.Ruling.the-variants.{No}
 use Rattle.text.specs.declared.check.Fault.the-variants.{Full}
@@ -36,10 +36,10 @@ use Rattle.diagram.specs.declared.registers.Registers.{Registers}
 use Rattle.text.specs.declared.engine.Engine.{Engine}
 use Rattle.diagram.specs.declared.node.Edge.{Edge}
 use Rattle.diagram.specs.declared.registers.Register.{Register}
-use Rattle.diagram.specs.declared.registers.Held.{Held}
+use Rattle.diagram.specs.declared.registers.RegisterContent.{RegisterContent}
 use Rattle.diagram.specs.declared.gate.Gate.{Gate}
 use Rattle.text.specs.declared.answer.Answer.the-variants as answers
-use Rattle.diagram.specs.declared.registers.Held.the-variants as held
+use Rattle.diagram.specs.declared.registers.RegisterContent.the-variants as content
 
 ruling-continue : (c : Capacity) (line : ℕ) (a : Answer) (t : Tally indices) (f : Tally indices → PerformResult indices)
     → rulingAtEnd c (continueWith line (a, t) f) ≡ cond (isNo a) (No Full line) (rulingAtEnd c (f t))
@@ -66,8 +66,8 @@ unfolding rulingFrom atLine perform
 performs-call {s} {c'} {s'} {a} {x} {y} q w n = record {
   invariant = w .invariant;
   is =
-      λ line more. rw (q, w .is, n) (ruling-continue (most (capacity s)) line (y .answer) (tallyOf s' (y .engine))
-      (perform (most (capacity s)) more));
+      λ line more. rw (q, w .is, n) (ruling-continue (atMost (capacity s)) line (y .answer) (tallyOf s' (y .engine))
+      (perform (atMost (capacity s)) more));
 }
 
 pub drop-collect-ensures : {s c' s' : List ℕ} {e : Engine} {rs rs' : Registers} {st : State}
@@ -100,39 +100,40 @@ module _ {s : List ℕ} {y : Reply} {a : Answer} {e : Engine} {b : Bool} (p : a 
 
 -- a gate
 
-pub list-valid : {m : ℕ} {rs : List Register} {r : ℕ} {x : Edge} {h : Held} → RegistersValid m rs → r < 2
+pub list-valid : {m : ℕ} {rs : List Register} {r : ℕ} {x : Edge} {h : RegisterContent} → RegistersValid m rs → r < 2
     → GetEnsures rs r h
-    → h ≡ held.Edge x → Valid m x
+    → h ≡ content.Edge x → Valid m x
 list-valid {h = h} g p i o = read-valid h g (omega arith) i o
 
 module _ {c s : List ℕ} {a : PerformState} {r : ℕ} (g : Gate) (w : EngineInvariant c s (a .engine))
     (q : a .refused ≡ false) (small : r < 2)
-    {h : Held} (i : GetEnsures (a .engine .registers .all) r h) where
-  pub performs-empty : {e : Engine} {b : Bool} → e ≡ a .engine → h ≡ held.Empty → b ≡ true
+    {h : RegisterContent} (i : GetEnsures (a .engine .registers .all) r h) where
+  pub performs-empty : {e : Engine} {b : Bool} → e ≡ a .engine → h ≡ content.Empty → b ≡ true
       → PerformsCalls s c s a (gateCalls r g) (record { refused = b; engine = e })
   unfolding rulingFrom tallyOf
   performs-empty m o n = record {
     invariant = rw m w;
     is = λ line more. rw (q, n)
-        (gate-empty (most (capacity s)) line r g (tallyOf s (a .engine)) more small
+        (gate-empty (atMost (capacity s)) line r g (tallyOf s (a .engine)) more small
         (holds-read (setOf s (a .engine .state)) i ∙ ap (heldTensor _) o));
   }
 
   pub performs-gate : {x : Edge} {c₁ s₁ c' s' : List ℕ} {y : Reply} {z : PerformState} → Placed mostQubits g
-      → h ≡ held.Edge x
+      → h ≡ content.Edge x
       → SetsRegister c₁ s s₁ (a .engine) r (applyStep g (tensorOf s (a .engine .state) x)) y
       → FinishEnsures s₁ c' s' y z → PerformsCalls s c' s' a (gateCalls r g) z
   unfolding rulingFrom tallyOf tensorOf
   performs-gate {x} p o v f = record {
     invariant = f .invariant;
     is = λ line more. rw q
-        (ap (rulingAtEnd (most (capacity s)))
-        (gate-performs (most (capacity s)) line r g (tensorOf s (a .engine .state) x) (tallyOf s (a .engine)) more small
+        (ap (rulingAtEnd (atMost (capacity s)))
+        (gate-performs (atMost (capacity s)) line r g (tensorOf s (a .engine .state) x) (tallyOf s (a .engine)) more
+        small
         sixteen
         (holds-read (setOf s (a .engine .state)) i
         ∙ ap (heldTensor _) o) (gate-rising indices mostQubits g (omega (arith, indices-count)) p)
-        ∙ ap (λ y. continueWith line y (λ t. perform (most (capacity s)) more (dropCollect t))) (v .is))
-        ∙ f .is (most (capacity s)) line more);
+        ∙ ap (λ y. continueWith line y (λ t. perform (atMost (capacity s)) more (dropCollect t))) (v .is))
+        ∙ f .is (atMost (capacity s)) line more);
   }
     where
       sixteen : length (tallyOf s (a .engine) .registers) ≡ registerCount

@@ -22,12 +22,12 @@ unfoldable pub written : Bytes → ℕ → Bytes → Bytes
 written l at text = take at l ++ text ++ drop (at + length text) l
 
 -- s is put at a place of l, and e is the place after it
-pub record Wrote (l : Bytes) (at : ℕ) (s l' : Bytes) (e : ℕ) : Type 0 where
+pub record WriteEnsures (l : Bytes) (at : ℕ) (s l' : Bytes) (e : ℕ) : Type 0 where
   pub exact : l' ≡ written l at s
   pub after : e ≡ at + length s
 
 -- The first i bytes of a text have been put.
-pub record PutLoop (l : Bytes) (at : ℕ) (s l' : Bytes) (i : ℕ) : Type 0 where
+pub record PutBytesLoop (l : Bytes) (at : ℕ) (s l' : Bytes) (i : ℕ) : Type 0 where
   pub within : i ≤ length s
   pub room : length l' ≡ length l
   pub same : l' ≡ sets l at (take i s)

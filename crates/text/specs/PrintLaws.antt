@@ -11,7 +11,7 @@ use lib.Seq.{sets, sets-eq, length-sets, take-suc, length-take-le, take-all, tak
 use lib.Dec.{ltb}
 use borrow.Author.Tests.{lt-ltb, le-ltb}
 use Rattle.text.specs.Text.{Bytes}
-use Rattle.text.specs.Print.{written, Wrote, PutLoop, digits, decimal}
+use Rattle.text.specs.Print.{written, WriteEnsures, PutBytesLoop, digits, decimal}
 
 -- Texts written one after the other.
 
@@ -45,13 +45,13 @@ written-then l at s t h =
     )
     (sets-append l at s t)
 
-pub wrote-length : {l : Bytes} {at : ℕ} {s l' : Bytes} {e : ℕ} → at + length s ≤ length l → Wrote l at s l' e
+pub wrote-length : {l : Bytes} {at : ℕ} {s l' : Bytes} {e : ℕ} → at + length s ≤ length l → WriteEnsures l at s l' e
     → length l' ≡ length l
 wrote-length {l} {at} {s} h w = rw (w .exact) (written-length l at s h)
 
-pub wrote-then : {l l1 l2 s t : Bytes} {at e r : ℕ} → Wrote l at s l1 e → Wrote l1 e t l2 r
+pub wrote-then : {l l1 l2 s t : Bytes} {at e r : ℕ} → WriteEnsures l at s l1 e → WriteEnsures l1 e t l2 r
     → at + length s + length t ≤ length l
-    → Wrote l at (s ++ t) l2 r
+    → WriteEnsures l at (s ++ t) l2 r
 wrote-then {l} {l1} {l2} {s} {t} {at} {e} {r} w v h =
     record {
       exact = v .exact ∙ rw (w .exact, w .after) (written-then l at s t h);
@@ -59,15 +59,15 @@ wrote-then {l} {l1} {l2} {s} {t} {at} {e} {r} w v h =
           omega (arith, w .after, v .after, length-append s t);
     }
 
-pub wrote-byte : (l : Bytes) (at v : ℕ) → at < length l → Wrote l at (v ∷ []) (set l at v) (at + 1)
+pub wrote-byte : (l : Bytes) (at v : ℕ) → at < length l → WriteEnsures l at (v ∷ []) (set l at v) (at + 1)
 wrote-byte l at v h = record { exact = sym (written-sets l at (v ∷ []) (omega arith)); after = refl }
 
-pub put-loop-start : {l : Bytes} {at : ℕ} {s : Bytes} → PutLoop l at s l 0
-put-loop-start = record { within = omega arith; room = refl; same = refl }
+pub put-bytes-loop-start : {l : Bytes} {at : ℕ} {s : Bytes} → PutBytesLoop l at s l 0
+put-bytes-loop-start = record { within = omega arith; room = refl; same = refl }
 
-pub put-loop-next : {l : Bytes} {at : ℕ} {s l' : Bytes} {i : ℕ} → PutLoop l at s l' i → i < length s
-    → PutLoop l at s (set l' (at + i) (getD s i 0)) (i + 1)
-put-loop-next {l} {at} {s} {l'} {i} p h =
+pub put-bytes-loop-next : {l : Bytes} {at : ℕ} {s l' : Bytes} {i : ℕ} → PutBytesLoop l at s l' i → i < length s
+    → PutBytesLoop l at s (set l' (at + i) (getD s i 0)) (i + 1)
+put-bytes-loop-next {l} {at} {s} {l'} {i} p h =
     let size : at + length (take i s) ≡ at + i = omega (arith, length-take-le i s (p .within)) in
     record {
       within = omega arith;
@@ -75,10 +75,10 @@ put-loop-next {l} {at} {s} {l'} {i} p h =
       same = rw (p .same, add-one i, take-suc s i 0 h, ← sets-append l at (take i s) (getD s i 0 ∷ []), size);
     }
 
-pub put-loop-end : {l : Bytes} {at : ℕ} {s l' : Bytes} {i : ℕ} → PutLoop l at s l' i → length s ≤ i
+pub put-bytes-loop-end : {l : Bytes} {at : ℕ} {s l' : Bytes} {i : ℕ} → PutBytesLoop l at s l' i → length s ≤ i
     → at + length s ≤ length l
-    → Wrote l at s l' (at + i)
-put-loop-end {l} {at} {s} {l'} {i} p h n =
+    → WriteEnsures l at s l' (at + i)
+put-bytes-loop-end {l} {at} {s} {l'} {i} p h n =
     record { exact = rw (p .same, take-all i s h, written-sets l at s n); after = omega arith }
 
 -- Decimal digits.
@@ -126,7 +126,7 @@ pub digit-room : (n at m : ℕ) → n < 10 → at + length (decimal n) ≤ m →
 digit-room n at m h r = omega (arith, ap length (decimal-small n h))
 
 pub digit-put : (l : Bytes) (n at : ℕ) → n < 10 → at + length (decimal n) ≤ length l
-    → Wrote l at (decimal n) (set l at (48 + n)) (at + 1)
+    → WriteEnsures l at (decimal n) (set l at (48 + n)) (at + 1)
 digit-put l n at h r = rw (decimal-small n h) (wrote-byte l at (48 + n) (digit-room n at (length l) h r))
 
 -- .. or its digits but the last, and then the last.
@@ -135,20 +135,21 @@ digits-room n at m h b r =
     omega (arith, ap length (decimal-more n h b), length-append (decimal (n / 10)) ((48 + n % 10) ∷ []))
 
 module _ {l l' : Bytes} {n at e : ℕ} (h : 10 ≤ n) (b : n < 2 ^ 64) (r : at + length (decimal n) ≤ length l)
-    (w : Wrote l at (decimal (n / 10)) l' e) where
+    (w : WriteEnsures l at (decimal (n / 10)) l' e) where
   pub last-room : (e < length l') × (length l' ≡ length l)
   last-room =
       let room = digits-room n at (length l) h b r in
       let size = wrote-length (omega arith) w in
       (omega (arith, w .after), size)
 
-  pub last-put : Wrote l at (decimal n) (set l' e (48 + n % 10)) (e + 1)
+  pub last-put : WriteEnsures l at (decimal n) (set l' e (48 + n % 10)) (e + 1)
   last-put =
       let room = digits-room n at (length l) h b r in
       rw (decimal-more n h b) (wrote-then w (wrote-byte l' e (48 + n % 10) (last-room .0)) (omega arith))
 
 -- what is left after a text is still there
-pub wrote-room : {l : Bytes} {at : ℕ} {s l' : Bytes} {e : ℕ} (k : ℕ) → at + length s + k ≤ length l → Wrote l at s l' e
+pub wrote-room : {l : Bytes} {at : ℕ} {s l' : Bytes} {e : ℕ} (k : ℕ) → at + length s + k ≤ length l → WriteEnsures
+    l at s l' e
     → e + k ≤ length l'
 wrote-room {l} {at} {s} k h w = omega (arith, wrote-length (omega arith) w, w .after)
 

@@ -69,8 +69,8 @@ outputs f q = f (middle q)
 abbrev pub inputs : Bits → BasisState
 inputs f q = f (input q)
 
--- The same of the tensor that a list's register ends with, over the engine's indices, at each assignment written as a
--- number.
+-- The tensor that a list's register ends with, over the engine's indices: at each assignment, written as a number, its
+-- value is the entry of the list's matrix.
 pub record ListMeans (n : ℕ) (gs : List Gate) : Type 0 where
   pub tensor : Tensor indices
   pub is : listTensor indices n gs ≡ some tensor

@@ -9,7 +9,7 @@ use native.Mathlib.Decide.{ℕ-discrete}
 use borrow.Author.Tests.{eq-eqb, ne-eqb}
 use Rattle.diagram.specs.Tensor.{Bits, input, middle, fresh, assign, Tensor, bits, at, value, scale}
 use Rattle.diagram.specs.Tensor.{indices, indices-count}
-use Rattle.diagram.specs.BitsLaws.{assign-at, assign-other}
+use Rattle.diagram.specs.TensorBitsLaws.{assign-at, assign-other}
 use Rattle.diagram.specs.Weights.{timesW, 0W, 1W, Weight}
 use Rattle.diagram.specs.Tabulate.{Sees}
 use Rattle.diagram.specs.Gate.{entry, straight, unitEntry, unitTensor}
@@ -25,8 +25,8 @@ use Rattle.text.specs.Apply.{appliedTensor, appliedList}
 use Rattle.text.specs.GateMatrix.{Wired, Has, raised, spread}
 use Rattle.text.specs.QubitsLaws.{placed-fit}
 use Rattle.text.specs.VerdictSessionLaws.{list-tensor}
-use Rattle.text.specs.MatrixLaws.{states-same, others-sees, product-assoc, identity-left, equal-swap}
-use Rattle.text.specs.MatrixLaws.{identity-right}
+use Rattle.text.specs.ProductMatrixLaws.{states-same, others-sees, product-assoc, identity-left, equal-swap}
+use Rattle.text.specs.ProductMatrixLaws.{identity-right}
 use Rattle.text.specs.GateMatrixLaws.{each-map, entry-alike, wires-fresh, wires-middle, gate-masked}
 use Rattle.text.specs.GateMatrixLaws.{settings-thirds, raised-other, raised-fresh, gate-applied, gate-product}
 use Rattle.text.specs.GateMatrixLaws.{gate-matrix-sees}

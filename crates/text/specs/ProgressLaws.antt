@@ -10,7 +10,7 @@ use lib.ListN.{length, take, drop, take-append-drop, getD, length-drop}
 use lib.Seq.{length-take-le, take-take, take-all}
 use borrow.Author.Tests.{le-leb, lt-leb}
 use lib.Dec.{leb}
-use Rattle.diagram.specs.EngineLaws.{set-length}
+use Rattle.diagram.specs.StoreLaws.{set-length}
 use Rattle.diagram.specs.Tensor.{indices}
 use Rattle.diagram.specs.Node.{capacity}
 use Rattle.text.specs.Text.{Bytes, lines, LF}
@@ -18,14 +18,14 @@ use Rattle.text.specs.Limits.{answerRoom}
 use Rattle.text.specs.Line.{LineRead, readLine}
 use Rattle.text.specs.Print.{written}
 use Rattle.text.specs.Answer.{printed, isNo, AnswerWritten}
-use Rattle.text.specs.Session.{withAnswer, nodeCount, most, TallyRun, run, answer, emptyRun}
+use Rattle.text.specs.Session.{withAnswer, nodeCount, atMost, TallyRun, run, answer, emptyRun}
 use Rattle.text.specs.Session as tally
 use Rattle.text.specs.Agrees.{line, Agrees, Passes, beforeStop, start, OneLine, AgreesThroughout}
 use Rattle.text.specs.Split.{part, Ends}
 use Rattle.text.specs.Engine.{tallyOf, EngineInvariant, EngineStartEnsures}
 use Rattle.text.specs.Respond.{RespondEnsures}
-use Rattle.text.specs.Progress.{runOf, AnswerLineEnsures, TurnEnsures, resultOf, resultAtStart, runFrom}
-use Rattle.text.specs.Progress.{ResumeEnsures, ResumeLoop, stoppedProgress, TurnRequires}
+use Rattle.text.specs.Progress.{runOf, AnswerLineEnsures, ResumeLineEnsures, resultOf, resultAtStart, runFrom}
+use Rattle.text.specs.Progress.{ResumeEnsures, ResumeLoop, stoppedProgress, ResumeLineRequires}
 use Rattle.text.specs.SplitLaws.{drop-further, drop-take, take-more, getD-next, drop-one, ends-from, lines-first}
 use Rattle.text.specs.SplitLaws.{lines-none, lines-count}
 use Rattle.text.specs.PrintLaws.{written-take, written-drop}
@@ -36,7 +36,7 @@ use Rattle.text.specs.declared.call.Call.{Call}
 use Rattle.text.specs.declared.engine.Reply.{Reply}
 use Rattle.text.specs.declared.progress.Progress.{Progress}
 use Rattle.text.specs.declared.engine.Engine.{Engine}
-use Rattle.text.specs.declared.progress.Session.{Session}
+use Rattle.text.specs.declared.progress.SessionResult.{SessionResult}
 
 -- a line
 
@@ -70,10 +70,10 @@ answer-line-ensures {line} {next} {s} {c'} {s'} {o} {o'} {p} {x} {y} {n} l r w h
       refused = λ no. r .refused (sym (ap (λ z. isNo (z .0)) (r .is)) ∙ rw (l .call) no);
     }
 
-pub turn-less : {text : Bytes} {s c' s' : List ℕ} {o o' : Bytes} {p r : Progress} → p .place < length text
-    → TurnEnsures text s c' s' o o' p r
+pub resume-line-less : {text : Bytes} {s c' s' : List ℕ} {o o' : Bytes} {p r : Progress} → p .place < length text
+    → ResumeLineEnsures text s c' s' o o' p r
     → length text + 1 - r .place < length text + 1 - p .place
-turn-less h w = omega (arith, w .ends .from, w .answered .place)
+resume-line-less h w = omega (arith, w .ends .from, w .answered .place)
 
 -- the run has come to p
 agrees-now : {c s : List ℕ} {o o₀ : Bytes} (p : Progress) → EngineInvariant c s (p .engine) → p .bytes ≤ length o
@@ -103,9 +103,9 @@ resume-ensures : {text : Bytes} {limit : ℕ} {e : Engine} {s₀ c s : List ℕ}
     → p .bytes ≤ length o → lines (drop (p .place) text) ≡ drop (p .lines) (lines text)
     → drop (p .bytes) o ≡ drop (p .bytes) o₀
     → p .place ≤ length text + 1
-    → Passes (most (capacity s₀)) o₀ (take limit (lines text)) (runFrom (tallyOf s₀ e)) s₀ (resultAtStart e) s o
+    → Passes (atMost (capacity s₀)) o₀ (take limit (lines text)) (runFrom (tallyOf s₀ e)) s₀ (resultAtStart e) s o
     (beforeStop (resultOf p))
-    → run (most (capacity s₀)) (length o₀) (take limit (lines text)) (runFrom (tallyOf s₀ e)) ≡ runOf s o p
+    → run (atMost (capacity s₀)) (length o₀) (take limit (lines text)) (runFrom (tallyOf s₀ e)) ≡ runOf s o p
     → ResumeEnsures text limit e s₀ c s o₀ o p
 resume-ensures {e = e} {s₀ = s₀} {s = s} {o₀ = o₀} {o} {p} h b r u k w q = record {
   invariant = h;
@@ -162,7 +162,7 @@ module _ {text : Bytes} {limit : ℕ} {e : Engine} {s₀ : List ℕ} {o₀ : Byt
   allowed = take limit (lines text)
 
   abbrev runs : List Bytes → TallyRun indices → TallyRun indices
-  runs = run (most (capacity s₀)) (length o₀)
+  runs = run (atMost (capacity s₀)) (length o₀)
 
   abbrev from : TallyRun indices
   from = runFrom (tallyOf s₀ e)
@@ -180,8 +180,8 @@ module _ {text : Bytes} {limit : ℕ} {e : Engine} {s₀ : List ℕ} {o₀ : Byt
   resume-loop-agrees =
       subst (Agrees s o₀ o (resultOf p)) (sym (g .now)) (agrees-now p (g .invariant) (g .bytes) (g .untouched))
 
-  pub resume-loop-turn : p .place < length text → answerRoom ≤ length o - p .bytes → TurnRequires text o p
-  resume-loop-turn h r = record { before = h; room = omega (arith, g .bytes); few = g .passed }
+  pub resume-loop-line : p .place < length text → answerRoom ≤ length o - p .bytes → ResumeLineRequires text o p
+  resume-loop-line h r = record { before = h; room = omega (arith, g .bytes); few = g .passed }
 
   -- the next line
   module _ (h : p .place < length text) (m : p .lines ≢ limit) {k : ℕ} (n : Ends LF text (p .place) k) where
@@ -191,7 +191,7 @@ module _ {text : Bytes} {limit : ℕ} {e : Engine} {s₀ : List ℕ} {o₀ : Byt
 
     next-run : (ls : List Bytes)
         → runs (part text (p .place) k ∷ ls) (runOf s o p) ≡ cond (leb (p .bytes + answerRoom) (length o₀))
-        (runs ls (withAnswer (runOf s o p) (answer (most (capacity s₀)) (readLine (part text (p .place) k))
+        (runs ls (withAnswer (runOf s o p) (answer (atMost (capacity s₀)) (readLine (part text (p .place) k))
         (tallyOf s (p .engine)))))
         (tally.stoppedRun (runOf s o p))
     unfolding run
@@ -200,38 +200,40 @@ module _ {text : Bytes} {limit : ℕ} {e : Engine} {s₀ : List ℕ} {o₀ : Byt
     -- the run of one line more, and of all
     one-more : runs (take (p .lines + 1) allowed) from ≡ runs (part text (p .place) k ∷ []) (runOf s o p)
     one-more = ap (λ ls. runs ls from) (take-more (p .lines) allowed next-line)
-        ∙ run-append (most (capacity s₀)) (length o₀) (take (p .lines) allowed) (part text (p .place) k ∷ []) from
+        ∙ run-append (atMost (capacity s₀)) (length o₀) (take (p .lines) allowed) (part text (p .place) k ∷ []) from
         ∙ ap (runs (part text (p .place) k ∷ [])) (g .now)
 
     all-run : runs allowed from
         ≡ runs (part text (p .place) k ∷ take (limit - (p .lines + 1)) (lines (drop (k + 1) text))) (runOf s o p)
     all-run = ap (λ ls. runs ls from) (sym (take-append-drop (p .lines) allowed))
-        ∙ run-append (most (capacity s₀)) (length o₀) (take (p .lines) allowed) (drop (p .lines) allowed) from
+        ∙ run-append (atMost (capacity s₀)) (length o₀) (take (p .lines) allowed) (drop (p .lines) allowed) from
         ∙ ap (runs (drop (p .lines) allowed)) (g .now) ∙ ap (λ ls. runs ls (runOf s o p)) next-line
 
   module _ {c' s' : List ℕ} {o' : Bytes} {r : Progress} (h : p .place < length text) (m : p .lines ≢ limit)
-      (t : TurnRequires text o p)
-      (u : length s' ≡ length s) (v : length o' ≡ length o) (w : TurnEnsures text s c' s' o o' p r) where
+      (t : ResumeLineRequires text o p)
+      (u : length s' ≡ length s) (v : length o' ≡ length o) (w : ResumeLineEnsures text s c' s' o o' p r) where
     abbrev a : AnswerLineEnsures (part text (p .place) (w .end)) (w .end + 1) s c' s' o o' p r
     a = w .answered
 
-    turn-bytes : r .bytes ≤ length o'
-    turn-bytes = omega (arith, a .bytes, v)
+    resume-line-bytes : r .bytes ≤ length o'
+    resume-line-bytes = omega (arith, a .bytes, v)
 
-    turn-untouched : drop (r .bytes) o' ≡ drop (r .bytes) o₀
-    turn-untouched = a .rest ∙ drop-further (p .bytes) (r .bytes) o o₀ (a .behind) (g .untouched)
+    resume-line-untouched : drop (r .bytes) o' ≡ drop (r .bytes) o₀
+    resume-line-untouched = a .rest ∙ drop-further (p .bytes) (r .bytes) o o₀ (a .behind) (g .untouched)
 
-    turn-now : runs (take (r .lines) allowed) from ≡ runOf s' o' r
+    resume-line-now : runs (take (r .lines) allowed) from ≡ runOf s' o' r
     unfolding run
-    turn-now = ap (λ n. runs (take n allowed) from) (a .lines) ∙ one-more h m (w .ends) ∙ next-run h m (w .ends) []
+    resume-line-now = ap (λ n. runs (take n allowed) from) (a .lines) ∙ one-more h m (w .ends) ∙ next-run h m (w .ends)
+        []
         ∙ rw (le-leb (p .bytes + answerRoom) (length o₀) (omega (arith, t .room, g .size)), a .is, g .long)
 
-    turn-agrees : Agrees s' o₀ o' (beforeStop (resultOf r)) (runs (take (r .lines) allowed) from)
-    turn-agrees = rw (← not-stopped r (a .code), turn-now) (agrees-now r (a .invariant) turn-bytes turn-untouched)
+    resume-line-agrees : Agrees s' o₀ o' (beforeStop (resultOf r)) (runs (take (r .lines) allowed) from)
+    resume-line-agrees = rw (← not-stopped r (a .code), resume-line-now)
+        (agrees-now r (a .invariant) resume-line-bytes resume-line-untouched)
 
-    turn-line : OneLine (most (capacity s₀)) (getD allowed (p .lines) []) (runs (take (p .lines) allowed) from .tally) s
-        s' (beforeStop (resultOf p)) (beforeStop (resultOf r))
-    turn-line = record {
+    resume-line-one : OneLine (atMost (capacity s₀)) (getD allowed (p .lines) [])
+        (runs (take (p .lines) allowed) from .tally) s s' (beforeStop (resultOf p)) (beforeStop (resultOf r))
+    resume-line-one = record {
       lines = a .lines ∙ add-one (p .lines);
       long = u;
       refused =
@@ -251,12 +253,12 @@ module _ {text : Bytes} {limit : ℕ} {e : Engine} {s₀ : List ℕ} {o₀ : Byt
       few = omega (arith, a .lines, g .few, m);
       passed = omega (arith, a .lines, a .place, g .passed, w .ends .from);
       within = omega (arith, a .place, w .ends .within);
-      bytes = turn-bytes;
+      bytes = resume-line-bytes;
       size = v ∙ g .size;
       rest = rw (a .place, a .lines) (sym (drop-one (p .lines) (lines text) (sym (g .rest) ∙ lines-first h (w .ends))));
-      untouched = turn-untouched;
-      now = turn-now;
-      passes = line (g .passes) turn-line turn-agrees;
+      untouched = resume-line-untouched;
+      now = resume-line-now;
+      passes = line (g .passes) resume-line-one resume-line-agrees;
     }
 
   -- the ends of the run
@@ -289,15 +291,15 @@ module _ {text : Bytes} {limit : ℕ} {e : Engine} {s₀ : List ℕ} {o₀ : Byt
 
 -- a session from the start
 pub work-agrees : {text : Bytes} {limit : ℕ} {e : Engine} {c₁ s₁ c' s' : List ℕ} {o o' : Bytes} {p : Progress}
-    {r : Session}
+    {r : SessionResult}
     (s : List ℕ) → EngineStartEnsures c₁ s₁ e → length s₁ ≡ length s
     → ResumeEnsures text limit e s₁ c' s' o o' p → r ≡ resultOf p
-    → AgreesThroughout (most (capacity s)) (take limit (lines text)) emptyRun s' o o' r
+    → AgreesThroughout (atMost (capacity s)) (take limit (lines text)) emptyRun s' o o' r
 unfolding runFrom emptyRun
 work-agrees s b l w q = rw (q, ← l, ← b .is) (w .agrees)
 
 -- a text has no more lines than bytes
-pub session-agrees : (text : Bytes) (s : List ℕ) {s' : List ℕ} {o o' : Bytes} {r : Session}
-    → AgreesThroughout (most (capacity s)) (take (length text) (lines text)) emptyRun s' o o' r
-    → AgreesThroughout (most (capacity s)) (lines text) emptyRun s' o o' r
+pub session-agrees : (text : Bytes) (s : List ℕ) {s' : List ℕ} {o o' : Bytes} {r : SessionResult}
+    → AgreesThroughout (atMost (capacity s)) (take (length text) (lines text)) emptyRun s' o o' r
+    → AgreesThroughout (atMost (capacity s)) (lines text) emptyRun s' o o' r
 session-agrees text s a = rw (take-all (length text) (lines text) (lines-count text)) at a

@@ -45,10 +45,10 @@ abbrev pub qubitList : Qubits → List ℕ
 qubitList (One q) = q ∷ []
 qubitList (Two p q) = p ∷ q ∷ []
 
-abbrev pub RangedQubits : Qubits → Type 0
-RangedQubits (One q) = q < mostQubits
-RangedQubits (Two p q) = (p < mostQubits) × (q < mostQubits)
+abbrev pub AllBelowEight : Qubits → Type 0
+AllBelowEight (One q) = q < mostQubits
+AllBelowEight (Two p q) = (p < mostQubits) × (q < mostQubits)
 
 pub record QubitsOf (g : Gate) (r : Qubits) : Type 0 where
   pub is : qubitList r ≡ qubits g
-  pub below : RangedQubits r
+  pub below : AllBelowEight r

@@ -15,7 +15,7 @@ use Rattle.diagram.specs.Entry.{QubitsInRange}
 use Rattle.text.specs.Limits.{mostQubits}
 use Rattle.text.specs.Names.{PlacedOn, Placed}
 use Rattle.text.specs.Check.{AllPlaced}
-use Rattle.text.specs.Qubits.{QubitsOf, qubitsOn, qubits, qubitList, middles, RangedQubits, Rising, AllSet}
+use Rattle.text.specs.Qubits.{QubitsOf, qubitsOn, qubits, qubitList, middles, AllBelowEight, Rising, AllSet}
 use Rattle.text.specs.Qubits.{AllFit}
 use Rattle.diagram.specs.declared.gate.Gate.{Gate}
 use Rattle.diagram.specs.declared.gate.Shape.{Shape}
@@ -60,14 +60,14 @@ pub middles-two : {p q r s : ℕ} {x : Qubits} → x ≡ Two p q → r ≡ 2 ^ (
 unfolding middles
 middles-two m e f = rw m (omega arith)
 
-pub below-one : {q : ℕ} (x : Qubits) → RangedQubits x → x ≡ One q → q < mostQubits
-below-one x b e = subst RangedQubits e b
+pub below-one : {q : ℕ} (x : Qubits) → AllBelowEight x → x ≡ One q → q < mostQubits
+below-one x b e = subst AllBelowEight e b
 
-pub below-first : {p q : ℕ} (x : Qubits) → RangedQubits x → x ≡ Two p q → p < mostQubits
-below-first x b e = subst RangedQubits e b .0
+pub below-first : {p q : ℕ} (x : Qubits) → AllBelowEight x → x ≡ Two p q → p < mostQubits
+below-first x b e = subst AllBelowEight e b .0
 
-pub below-second : {p q : ℕ} (x : Qubits) → RangedQubits x → x ≡ Two p q → q < mostQubits
-below-second x b e = subst RangedQubits e b .1
+pub below-second : {p q : ℕ} (x : Qubits) → AllBelowEight x → x ≡ Two p q → q < mostQubits
+below-second x b e = subst AllBelowEight e b .1
 
 -- bits of a sum of powers of two
 

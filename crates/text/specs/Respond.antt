@@ -4,7 +4,7 @@ use mathlib.Core.Path.{_≡_}
 use Prim.Native.Nat.{ℕ}
 use Rattle.diagram.specs.Node.{capacity}
 use Rattle.text.specs.Answer.{SmallAnswer}
-use Rattle.text.specs.Session.{most, answer}
+use Rattle.text.specs.Session.{atMost, answer}
 use Rattle.text.specs.Engine.{Forgotten, FullForgets, tallyOf, RefusedUnchanged, EngineInvariant}
 use Rattle.text.specs.declared.call.Call.{Call}
 use Rattle.text.specs.declared.engine.Reply.{Reply}
@@ -29,7 +29,7 @@ Forgets (call.Refused why) = λ c' r. Unit {0}
 pub record RespondEnsures (c' s s' : List ℕ) (e : Engine) (x : Call) (r : Reply) : Type 0 where
   pub invariant : EngineInvariant c' s' (r .engine)
   pub small : SmallAnswer (r .answer)
-  pub is : answer (most (capacity s)) x (tallyOf s e) ≡ (r .answer, tallyOf s' (r .engine))
+  pub is : answer (atMost (capacity s)) x (tallyOf s e) ≡ (r .answer, tallyOf s' (r .engine))
   pub refused : RefusedUnchanged s s' e r
   pub forgets : Forgets x c' r
 

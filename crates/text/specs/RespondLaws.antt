@@ -8,21 +8,22 @@ use native.Mathlib.Omega.{arith}
 use lib.ListN.{set}
 use Rattle.diagram.specs.InvariantLaws.{holds-read, read-valid, invariant-clear, invariant-collect}
 use Rattle.diagram.specs.Tensor.{Tensor, indices, bits, constant, value}
-use Rattle.diagram.specs.Engine.{setOf, tensorOf, Refines}
-use Rattle.diagram.specs.EngineLaws.{set-length}
+use Rattle.diagram.specs.Store.{setOf, tensorOf, Refines}
+use Rattle.diagram.specs.StoreLaws.{set-length}
 use Rattle.diagram.specs.Registers.{GetEnsures, RegistersValid, emptyRegister, holds}
 use Rattle.diagram.specs.RegistersLaws.{holds-set}
 use Rattle.diagram.specs.Node.{capacity}
-use Rattle.diagram.specs.Weights.{toWeight, Represents, represents-number, modulus}
+use Rattle.diagram.specs.Weights.{toWeight, Represents, modulus}
+use Rattle.diagram.specs.WeightsLaws.{represents-number}
 use Rattle.diagram.specs.Tally.{Step, return, sum, cont, build}
 use Rattle.diagram.specs.Gate.{gateTensor, unitTensor}
 use Rattle.diagram.specs.Compare.{ComparisonMeans, compared, CompareEnsures}
 use Rattle.diagram.specs.CompareLaws.{compared-means}
 use Rattle.diagram.specs.Collect.{CollectEnsures}
 use Rattle.text.specs.Limits.{registerCount}
-use Rattle.text.specs.Call.{Ranged, refusalNumber}
+use Rattle.text.specs.Call.{InRange, refusalNumber}
 use Rattle.text.specs.Answer.{isNo, SmallAnswer}
-use Rattle.text.specs.Session.{TallyReply, refuse, withTensor, withRegister, most, answer, settle, comparison}
+use Rattle.text.specs.Session.{TallyReply, refuse, withTensor, withRegister, atMost, answer, settle, comparison}
 use Rattle.text.specs.Session.{nodeCount, accept}
 use Rattle.text.specs.Engine.{EngineInvariant, tallyOf, RefuseEnsures, FullForgets, SetsRegister, SettleEnsures}
 use Rattle.text.specs.Operate.{LowEnsures}
@@ -32,7 +33,7 @@ use Rattle.text.specs.declared.call.Call.{Call}
 use Rattle.text.specs.declared.engine.Engine.{Engine}
 use Rattle.text.specs.declared.engine.Reply.{Reply}
 use Rattle.diagram.specs.declared.node.Edge.{Edge}
-use Rattle.diagram.specs.declared.registers.Held.{Held}
+use Rattle.diagram.specs.declared.registers.RegisterContent.{RegisterContent}
 use Rattle.text.specs.declared.call.Refusal.the-variants.{Empty}
 use Rattle.text.specs.declared.answer.Answer.{Answer}
 use Rattle.text.specs.declared.answer.Answer.the-variants.{Ok, No, Value, Same, Factor, Differ}
@@ -43,15 +44,15 @@ use Rattle.diagram.specs.declared.compare.Comparison.{Comparison}
 use Rattle.diagram.specs.declared.registers.Register.{Register}
 use Rattle.diagram.specs.declared.registers.Registers.{Registers}
 use Rattle.diagram.specs.declared.make.State.{State}
-use Rattle.diagram.specs.declared.registers.Held.the-variants as held
+use Rattle.diagram.specs.declared.registers.RegisterContent.the-variants as content
 use Rattle.text.specs.declared.call.Call.the-variants as call
 use Rattle.diagram.specs.declared.join.Outcome.the-variants as outcome
 use Rattle.diagram.specs.declared.compare.Comparison.the-variants as compare
 
 -- what a call's line said, case by case
 
-pub ranged-as : {x : Call} (y : Call) → Ranged y → y ≡ x → Ranged x
-ranged-as y r e = subst Ranged e r
+pub ranged-as : {x : Call} (y : Call) → InRange y → y ≡ x → InRange x
+ranged-as y r e = subst InRange e r
 
 pub responds-as : {c' s s' : List ℕ} {e : Engine} {x y : Call} {r : Reply} → y ≡ x → RespondEnsures c' s s' e x r
     → RespondEnsures c' s s' e y r
@@ -69,13 +70,13 @@ pure-ensures-as {s = s} p q h = read-ensures-as p q (h .on s)
 
 -- an operand
 
-module _ (s : List ℕ) (e : Engine) {a : ℕ} {h : Held} (r : GetEnsures (e .registers .all) a h)
+module _ (s : List ℕ) (e : Engine) {a : ℕ} {h : RegisterContent} (r : GetEnsures (e .registers .all) a h)
     (f : Tensor indices → TallyReply indices) where
-  pub operand : {x : Edge} → h ≡ held.Edge x → withRegister (tallyOf s e) a f ≡ f (tensorOf s (e .state) x)
+  pub operand : {x : Edge} → h ≡ content.Edge x → withRegister (tallyOf s e) a f ≡ f (tensorOf s (e .state) x)
   unfolding withRegister withTensor tallyOf tensorOf
   operand q = rw (holds-read (setOf s (e .state)) r, q)
 
-  pub operand-empty : h ≡ held.Empty → withRegister (tallyOf s e) a f ≡ refuse Empty (tallyOf s e)
+  pub operand-empty : h ≡ content.Empty → withRegister (tallyOf s e) a f ≡ refuse Empty (tallyOf s e)
   unfolding withRegister withTensor tallyOf
   operand-empty q = rw (holds-read (setOf s (e .state)) r, q)
 
@@ -96,7 +97,7 @@ refused-forgets why n f q = absurd (n (ap refusalOfAnswer (sym (f .answer) ∙ q
 
 module _ {c s : List ℕ} {e : Engine} {r : Reply} (p : EngineInvariant c s e) where
   pub respond-refused : {x : Call} {why : Refusal} → Forgets x c r → RefuseEnsures e why r
-      → answer (most (capacity s)) x (tallyOf s e) ≡ refuse why (tallyOf s e) → RespondEnsures c s s e x r
+      → answer (atMost (capacity s)) x (tallyOf s e) ≡ refuse why (tallyOf s e) → RespondEnsures c s s e x r
   unfolding refuse
   respond-refused {x} {why} n f q = record {
     invariant = rw (f .engine) p;
@@ -111,7 +112,7 @@ module _ {c s : List ℕ} {e : Engine} {r : Reply} (p : EngineInvariant c s e) w
   unfolding answer
   refused-line q f = respond-refused (rw q tt) f (rw q)
 
-  module _ {a : ℕ} {h : Held} (g : GetEnsures (e .registers .all) a h) (q : h ≡ held.Empty)
+  module _ {a : ℕ} {h : RegisterContent} (g : GetEnsures (e .registers .all) a h) (q : h ≡ content.Empty)
       (f : RefuseEnsures e Empty r) where
     pub empty-add : {d b : ℕ} → RespondEnsures c s s e (call.Add d a b) r
     unfolding answer
@@ -126,8 +127,9 @@ module _ {c s : List ℕ} {e : Engine} {r : Reply} (p : EngineInvariant c s e) w
     empty-low = respond-refused (refused-forgets Empty (λ z. omega arith) f) f (operand-empty s e g _ q)
 
   -- the second operand
-  module _ {a b : ℕ} {h g : Held} {x : Edge} (i : GetEnsures (e .registers .all) a h) (o : h ≡ held.Edge x)
-      (j : GetEnsures (e .registers .all) b g) (q : g ≡ held.Empty) (f : RefuseEnsures e Empty r) where
+  module _ {a b : ℕ} {h g : RegisterContent} {x : Edge} (i : GetEnsures (e .registers .all) a h)
+      (o : h ≡ content.Edge x)
+      (j : GetEnsures (e .registers .all) b g) (q : g ≡ content.Empty) (f : RefuseEnsures e Empty r) where
     pub empty-add-2 : {d : ℕ} → RespondEnsures c s s e (call.Add d a b) r
     unfolding answer
     empty-add-2 =
@@ -138,8 +140,8 @@ module _ {c s : List ℕ} {e : Engine} {r : Reply} (p : EngineInvariant c s e) w
     empty-cont-2 =
         respond-refused (refused-forgets Empty (λ z. omega arith) f) f (operand s e i _ o ∙ operand-empty s e j _ q)
 
-module _ {e : Engine} {r : Reply} {a : ℕ} {h : Held} (g : GetEnsures (e .registers .all) a h) where
-  pub empty-drop : h ≡ held.Empty → RefuseEnsures e Empty r → PureEnsures e (call.Drop a) r
+module _ {e : Engine} {r : Reply} {a : ℕ} {h : RegisterContent} (g : GetEnsures (e .registers .all) a h) where
+  pub empty-drop : h ≡ content.Empty → RefuseEnsures e Empty r → PureEnsures e (call.Drop a) r
   unfolding answer
   empty-drop q f = record {
     on = λ s. record {
@@ -147,12 +149,12 @@ module _ {e : Engine} {r : Reply} {a : ℕ} {h : Held} (g : GetEnsures (e .regis
     };
   }
 
-  pub empty-at : {s : List ℕ} {v : ℕ} → h ≡ held.Empty → RefuseEnsures e Empty r → ReadEnsures s e (call.At a v) r
+  pub empty-at : {s : List ℕ} {v : ℕ} → h ≡ content.Empty → RefuseEnsures e Empty r → ReadEnsures s e (call.At a v) r
   unfolding answer
   empty-at {s} q f =
       record { on = λ c p. respond-refused p (refused-forgets Empty (λ z. omega arith) f) f (operand-empty s e g _ q) }
 
-  pub empty-cmp : {b : ℕ} → h ≡ held.Empty → RefuseEnsures e Empty r → PureEnsures e (call.Cmp a b) r
+  pub empty-cmp : {b : ℕ} → h ≡ content.Empty → RefuseEnsures e Empty r → PureEnsures e (call.Cmp a b) r
   unfolding answer
   empty-cmp q f = record {
     on = λ s. record {
@@ -160,8 +162,8 @@ module _ {e : Engine} {r : Reply} {a : ℕ} {h : Held} (g : GetEnsures (e .regis
     };
   }
 
-  pub empty-cmp-2 : {b : ℕ} {k : Held} {x : Edge} → h ≡ held.Edge x → GetEnsures (e .registers .all) b k
-      → k ≡ held.Empty
+  pub empty-cmp-2 : {b : ℕ} {k : RegisterContent} {x : Edge} → h ≡ content.Edge x → GetEnsures (e .registers .all) b k
+      → k ≡ content.Empty
       → RefuseEnsures e Empty r
       → PureEnsures e (call.Cmp a b) r
   unfolding answer
@@ -177,7 +179,8 @@ module _ {e : Engine} {r : Reply} {a : ℕ} {h : Held} (g : GetEnsures (e .regis
 
 module _ {c' s s' : List ℕ} {e : Engine} {d : ℕ} {r : Reply} where
   sets-register-as : {f : Step indices} {x : Call} → (FullForgets c' r → Forgets x c' r)
-      → answer (most (capacity s)) x (tallyOf s e) ≡ settle (most (capacity s)) d (f (setOf s (e .state))) (tallyOf s e)
+      → answer (atMost (capacity s)) x (tallyOf s e) ≡ settle (atMost (capacity s)) d (f (setOf s (e .state)))
+      (tallyOf s e)
       → SetsRegister c' s s' e d f r → RespondEnsures c' s s' e x r
   sets-register-as n q h =
       record {
@@ -211,8 +214,9 @@ module _ {c' s s' : List ℕ} {e : Engine} {d : ℕ} {r : Reply} where
     responds-unit {n = n} w h = sets-register-as {f = build (unitTensor indices n)} (λ z. z) refl
         (sets-register-step p _ w h)
 
-  module _ {a b : ℕ} {h g : Held} {x y : Edge} (i : GetEnsures (e .registers .all) a h) (o : h ≡ held.Edge x)
-      (j : GetEnsures (e .registers .all) b g) (q : g ≡ held.Edge y) where
+  module _ {a b : ℕ} {h g : RegisterContent} {x y : Edge} (i : GetEnsures (e .registers .all) a h)
+      (o : h ≡ content.Edge x)
+      (j : GetEnsures (e .registers .all) b g) (q : g ≡ content.Edge y) where
     pub responds-add : SetsRegister c' s s' e d (sum (tensorOf s (e .state) x) (tensorOf s (e .state) y)) r
         → RespondEnsures c' s s' e (call.Add d a b) r
     unfolding answer tallyOf
@@ -224,8 +228,8 @@ module _ {c' s s' : List ℕ} {e : Engine} {d : ℕ} {r : Reply} where
     unfolding answer tallyOf
     responds-cont w = sets-register-as (λ z. z) (operand s e i _ o ∙ operand s e j _ q) w
 
-pub responds-low : {c' s s' : List ℕ} {e : Engine} {d a k : ℕ} {h : Held} {x : Edge} {r : Reply}
-    → GetEnsures (e .registers .all) a h → h ≡ held.Edge x
+pub responds-low : {c' s s' : List ℕ} {e : Engine} {d a k : ℕ} {h : RegisterContent} {x : Edge} {r : Reply}
+    → GetEnsures (e .registers .all) a h → h ≡ content.Edge x
     → LowEnsures c' s s' e d k x r → RespondEnsures c' s s' e (call.Low d a k) r
 unfolding answer tallyOf
 responds-low {s = s} {e = e} i o w = record {
@@ -242,8 +246,9 @@ pub comparison-factor : {f : ℕ} {c : Comparison} → c ≡ compare.Factor f �
 comparison-factor q = ap comparison (sym q)
 
 -- weights of valid edges are small
-pub read-small : {m : ℕ} {rs : List Register} {i : ℕ} {x : Edge} {h : Held} → RegistersValid m rs → i < registerCount
-    → GetEnsures rs i h → h ≡ held.Edge x → x .weight < modulus
+pub read-small : {m : ℕ} {rs : List Register} {i : ℕ} {x : Edge} {h : RegisterContent} → RegistersValid m rs → i
+    < registerCount
+    → GetEnsures rs i h → h ≡ content.Edge x → x .weight < modulus
 read-small {h = h} g p r q = read-valid h g p r q .small
 
 comparison-accepted : (r : Comparison) → isNo (comparison r) ≡ false
@@ -256,7 +261,8 @@ small-comparison A B compare.Same n = tt
 small-comparison A B (compare.Factor f) n = omega (arith, n .small)
 small-comparison A B compare.Differ n = tt
 
-module _ {e : Engine} {a : ℕ} {h : Held} {x : Edge} (i : GetEnsures (e .registers .all) a h) (o : h ≡ held.Edge x) where
+module _ {e : Engine} {a : ℕ} {h : RegisterContent} {x : Edge} (i : GetEnsures (e .registers .all) a h)
+    (o : h ≡ content.Edge x) where
   pub responds-drop : {rs : Registers} → rs .all ≡ set (e .registers .all) a emptyRegister
       → PureEnsures e (call.Drop a)
       (record { answer = Ok (e .state .count); engine = record { state = e .state; registers = rs } })
@@ -290,8 +296,9 @@ module _ {e : Engine} {a : ℕ} {h : Held} {x : Edge} (i : GetEnsures (e .regist
         forgets = never-full (Value w) refl;
       }
 
-  pub responds-cmp : {b : ℕ} {g : Held} {y : Edge} {r : Comparison} {n : Answer} → a < registerCount → b < registerCount
-      → GetEnsures (e .registers .all) b g → g ≡ held.Edge y
+  pub responds-cmp : {b : ℕ} {g : RegisterContent} {y : Edge} {r : Comparison} {n : Answer} → a < registerCount → b
+      < registerCount
+      → GetEnsures (e .registers .all) b g → g ≡ content.Edge y
       → CompareEnsures x y r → n ≡ comparison r → PureEnsures e (call.Cmp a b) (record { answer = n; engine = e })
   unfolding answer
   responds-cmp {b} {g} {y} {r} {n} u v j q w m = record { on = λ s. record { on = λ c p. on c s p } }

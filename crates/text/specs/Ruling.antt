@@ -6,7 +6,7 @@ use lib.ListN.{length}
 use Rattle.text.specs.Text.{Bytes, bytes}
 use Rattle.text.specs.Limits.{lastWeight, verdictRoom}
 use Rattle.text.specs.Print.{decimal, written}
-use Rattle.text.specs.Answer.{answerLine, printed}
+use Rattle.text.specs.Answer.{lineOfFields, printed}
 use Rattle.text.specs.declared.check.Fault.{Fault}
 use Rattle.text.specs.declared.check.Fault.the-variants.{Header as BadHeader, Line, Qubit, Equal, Parting, Full}
 use Rattle.text.specs.declared.ruling.Ruling.{Ruling}
@@ -28,7 +28,7 @@ unfoldable pub printedRuling : Ruling → Bytes
 printedRuling Same = printed answer.Same
 printedRuling (Factor f) = printed (answer.Factor f)
 printedRuling Differ = printed answer.Differ
-printedRuling (No f line) = answerLine (bytes "no" ∷ decimal (faultNumber f) ∷ decimal line ∷ [])
+printedRuling (No f line) = lineOfFields (bytes "no" ∷ decimal (faultNumber f) ∷ decimal line ∷ [])
 
 -- a factor is a weight
 abbrev pub SmallRuling : Ruling → Type 0

@@ -7,11 +7,11 @@ use native.Mathlib.Omega.{arith}
 use lib.Dec.{eqb}
 use Rattle.text.specs.Text.{LF, tab}
 use Rattle.text.specs.Print.{decimal}
-use Rattle.text.specs.Answer.{answerLine, printed}
+use Rattle.text.specs.Answer.{lineOfFields, printed}
 use Rattle.text.specs.Ruling.{faultNumber, printedRuling, ShortRuling}
 use Rattle.text.specs.VerdictBytes.{sameLine, factorLine, differLine, noLine}
 use Rattle.text.specs.SplitLaws.{head-same, tail-same}
-use Rattle.text.specs.DecimalLaws.{visible, seam, decimal-exact, decimal-injective}
+use Rattle.text.specs.PrintDecimalLaws.{visible, seam, decimal-exact, decimal-injective}
 use Rattle.text.specs.declared.check.Fault.{Fault}
 use Rattle.text.specs.declared.ruling.Ruling.the-variants.{Same, Factor, Differ, No}
 use Rattle.text.specs.declared.ruling.Ruling.{Ruling}
@@ -48,32 +48,32 @@ fault-number-small faults.Full = omega arith
 -- What is printed, in VerdictBytes' words
 
 pub prints-same : printedRuling Same ≡ sameLine
-unfolding printedRuling printed answerLine
+unfolding printedRuling printed lineOfFields
 prints-same = refl
 
 pub prints-factor : (f : ℕ) → printedRuling (Factor f) ≡ factorLine f
-unfolding printedRuling printed answerLine
+unfolding printedRuling printed lineOfFields
 prints-factor f = refl
 
 pub prints-differ : printedRuling Differ ≡ differLine
-unfolding printedRuling printed answerLine
+unfolding printedRuling printed lineOfFields
 prints-differ = refl
 
 pub prints-no : (f : Fault) (line : ℕ) → printedRuling (No f line) ≡ noLine f line
-unfolding printedRuling printed answerLine
+unfolding printedRuling printed lineOfFields
 prints-no f line = refl
 
 -- .. and of which ruling it is: the first byte tells the four kinds apart
 
 pub printed-same : (r : Ruling) → printedRuling r ≡ sameLine → r ≡ Same
-unfolding printedRuling printed answerLine
+unfolding printedRuling printed lineOfFields
 printed-same Same e = refl
 printed-same (Factor g) e = absurd (let z : _≡_ {A = ℕ} 102 115 = head-same e in omega arith)
 printed-same Differ e = absurd (let z : _≡_ {A = ℕ} 100 115 = head-same e in omega arith)
 printed-same (No g l) e = absurd (let z : _≡_ {A = ℕ} 110 115 = head-same e in omega arith)
 
 pub printed-differ : (r : Ruling) → printedRuling r ≡ differLine → r ≡ Differ
-unfolding printedRuling printed answerLine
+unfolding printedRuling printed lineOfFields
 printed-differ Same e = absurd (let z : _≡_ {A = ℕ} 115 100 = head-same e in omega arith)
 printed-differ (Factor g) e = absurd (let z : _≡_ {A = ℕ} 102 100 = head-same e in omega arith)
 printed-differ Differ e = refl
@@ -82,7 +82,7 @@ printed-differ (No g l) e = absurd (let z : _≡_ {A = ℕ} 110 100 = head-same 
 -- a factor, up to its digits
 pub printed-factor : (r : Ruling) (f : ℕ) → printedRuling r ≡ factorLine f
     → (g : ℕ) × (r ≡ Factor g) × (decimal g ≡ decimal f)
-unfolding printedRuling printed answerLine
+unfolding printedRuling printed lineOfFields
 printed-factor Same f e = absurd (let z : _≡_ {A = ℕ} 115 102 = head-same e in omega arith)
 printed-factor (Factor g) f e = (
   g,
@@ -96,7 +96,7 @@ printed-factor (No g l) f e = absurd (let z : _≡_ {A = ℕ} 110 102 = head-sam
 -- a refusal, up to the digits of its line
 pub printed-no : (r : Ruling) (f : Fault) (line : ℕ) → printedRuling r ≡ noLine f line
     → (l : ℕ) × (r ≡ No f l) × (decimal l ≡ decimal line)
-unfolding printedRuling printed answerLine
+unfolding printedRuling printed lineOfFields
 printed-no Same f line e = absurd (let z : _≡_ {A = ℕ} 115 110 = head-same e in omega arith)
 printed-no (Factor g) f line e = absurd (let z : _≡_ {A = ℕ} 102 110 = head-same e in omega arith)
 printed-no Differ f line e = absurd (let z : _≡_ {A = ℕ} 100 110 = head-same e in omega arith)

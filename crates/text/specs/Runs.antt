@@ -7,7 +7,7 @@ use lib.ListN.{length, getD}
 use Rattle.diagram.specs.Tensor.{Tensor}
 use Rattle.diagram.specs.Compare.{compared}
 use Rattle.text.specs.Limits.{registerCount}
-use Rattle.text.specs.Session.{Capacity, most, unlimited, Tally, TallyReply, comparison}
+use Rattle.text.specs.Session.{Capacity, atMost, unlimited, Tally, TallyReply, comparison}
 use Rattle.text.specs.VerdictSession.{PerformResult, refusedAt, endedWith, rulingOfAnswer}
 use Rattle.text.specs.declared.call.Refusal.the-variants.{Full}
 use Rattle.text.specs.declared.ruling.Ruling.{Ruling}
@@ -15,22 +15,24 @@ use Rattle.text.specs.declared.ruling.Ruling.the-variants.{No}
 use Rattle.text.specs.declared.answer.Answer.the-variants as answers
 use Rattle.text.specs.declared.check.Fault.the-variants as faults
 
--- how a call goes in a verdict's session: refused as full, never so at unlimited capacity; or on, with registers of
--- which P holds
+-- what the tally's registers hold
 abbrev pub RegisterList : ℕ → Type 0
 RegisterList d = List (Option (Tensor d))
 
 abbrev pub IsLimited : Capacity → Type 0
-IsLimited (most c) = Unit {0}
+IsLimited (atMost c) = Unit {0}
 IsLimited unlimited = ⊥
 
-pub data CallRuns {d : ℕ} (c : Capacity) (P : RegisterList d → Type 0) : TallyReply d → Type 0 where
-  full : {t : Tally d} → IsLimited c → CallRuns c P (answers.No Full, t)
-  on : {n : ℕ} {t : Tally d} → P (t .registers) → CallRuns c P (answers.Ok n, t)
+-- how a call ends in a verdict's session: refused as full, never so at unlimited capacity; or accepted, with registers
+-- of which P holds
+pub data OneCallRuns {d : ℕ} (c : Capacity) (P : RegisterList d → Type 0) : TallyReply d → Type 0 where
+  full : {t : Tally d} → IsLimited c → OneCallRuns c P (answers.No Full, t)
+  on : {n : ℕ} {t : Tally d} → P (t .registers) → OneCallRuns c P (answers.Ok n, t)
 
-pub data CallsRun {d : ℕ} (c : Capacity) (P : RegisterList d → Type 0) : PerformResult d → Type 0 where
-  full : {line : ℕ} → IsLimited c → CallsRun c P (refusedAt line Full)
-  end : {t : Tally d} → P (t .registers) → CallsRun c P (endedWith t)
+-- the same of calls one after the other
+pub data AllCallsRun {d : ℕ} (c : Capacity) (P : RegisterList d → Type 0) : PerformResult d → Type 0 where
+  full : {line : ℕ} → IsLimited c → AllCallsRun c P (refusedAt line Full)
+  end : {t : Tally d} → P (t .registers) → AllCallsRun c P (endedWith t)
 
 -- the registers while a list runs in r: its tensor there, another register j as it was; a gate in 2
 pub record HoldsList {d : ℕ} (r : ℕ) (T : Tensor d) (j : ℕ) (o : Option (Tensor d)) (l : RegisterList d) : Type 0 where
@@ -50,6 +52,6 @@ pub record HoldsBoth {d : ℕ} (T U : Tensor d) (l : RegisterList d) : Type 0 wh
 
 -- What a good text's verdict is: refused as full, never so at unlimited capacity; or what comparing the lists' tensors
 -- says.
-pub data Judged (c : Capacity) {d : ℕ} (T U : Tensor d) : Ruling → Type 0 where
-  was-full : (line : ℕ) → IsLimited c → Judged c T U (No faults.Full line)
-  was-compared : Judged c T U (rulingOfAnswer (comparison (compared T U)))
+pub data GoodTextRuling (c : Capacity) {d : ℕ} (T U : Tensor d) : Ruling → Type 0 where
+  was-full : (line : ℕ) → IsLimited c → GoodTextRuling c T U (No faults.Full line)
+  was-compared : GoodTextRuling c T U (rulingOfAnswer (comparison (compared T U)))

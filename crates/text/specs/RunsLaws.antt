@@ -14,19 +14,21 @@ use Rattle.diagram.specs.Gate.{gateTensor, unitTensor}
 use Rattle.diagram.specs.TallyStepLaws.{writes-answer}
 use Rattle.diagram.specs.TallyContLaws.{cont-meaning}
 use Rattle.diagram.specs.SumOver.{sumOver}
-use Rattle.diagram.specs.FreeLaws.{free-depends}
+use Rattle.diagram.specs.TopFreeLaws.{free-depends}
 use Rattle.diagram.specs.Top.{Free}
 use Rattle.diagram.specs.TallyLowLaws.{low-writes}
 use Rattle.diagram.specs.TallyBuildLaws.{build-writes}
 use Rattle.text.specs.Limits.{registerCount}
-use Rattle.text.specs.Session.{Capacity, Tally, most, unlimited, accept, refuse, settle, TallyReply, answer}
+use Rattle.text.specs.Session.{Capacity, Tally, atMost, unlimited, accept, refuse, settle, TallyReply, answer}
 use Rattle.text.specs.Session.{withRegister}
 use Rattle.text.specs.Session as Session
 use Rattle.text.specs.Qubits.{Rising, AllFit, qubits, middles}
-use Rattle.text.specs.VerdictSession.{PerformResult, continueWith, Numbered, perform, atLine, lowCalls, gateCalls}
+use Rattle.text.specs.VerdictSession.{PerformResult, continueWith, NumberedCall, perform, atLine, lowCalls}
+use Rattle.text.specs.VerdictSession.{gateCalls}
 use Rattle.text.specs.VerdictSession.{gatesCalls, listCalls}
 use Rattle.text.specs.Apply.{AllFree, renamedTensor, contractedTensor, appliedTensor, appliedList}
-use Rattle.text.specs.Runs.{RegisterList, IsLimited, CallRuns, full, on, CallsRun, end, HoldsList, HoldsGate}
+use Rattle.text.specs.Runs.{RegisterList, IsLimited, OneCallRuns, full, on, AllCallsRun, end, HoldsList}
+use Rattle.text.specs.Runs.{HoldsGate}
 use Rattle.text.specs.QubitsLaws.{middles-set}
 use Rattle.text.specs.ApplyLaws.{all-free-renamed, all-free}
 use Rattle.text.specs.declared.call.Refusal.the-variants.{Full}
@@ -36,27 +38,28 @@ use Rattle.text.specs.declared.answer.Answer.the-variants as answers
 use Rattle.text.specs.declared.call.Call.the-variants as call
 
 runs-settled : {d : ℕ} (c : Capacity) (P : RegisterList d → Type 0) (b : Bool) (n : ℕ) (s t : Tally d)
-    → (b ≡ false → IsLimited c) → P (s .registers) → CallRuns c P (cond b (answers.Ok n, s) (answers.No Full, t))
+    → (b ≡ false → IsLimited c) → P (s .registers) → OneCallRuns c P (cond b (answers.Ok n, s) (answers.No Full, t))
 runs-settled c P true n s t l h = on h
 runs-settled c P false n s t l h = full (l refl)
 
 runs-settle : {d : ℕ} (c : Capacity) (P : RegisterList d → Type 0) (r : ℕ) (p : Tensor d × Set d) (t : Tally d)
-    → P (set (t .registers) r (some (p .0))) → CallRuns c P (settle c r p t)
+    → P (set (t .registers) r (some (p .0))) → OneCallRuns c P (settle c r p t)
 unfolding settle accept refuse
-runs-settle (most m) P r p t h = runs-settled (most m) P (leb (length (p .1)) m) _ _ _ (λ e. tt) h
+runs-settle (atMost m) P r p t h = runs-settled (atMost m) P (leb (length (p .1)) m) _ _ _ (λ e. tt) h
 runs-settle unlimited P r p t h = on h
 
 runs-on : {d : ℕ} {c : Capacity} (P Q : RegisterList d → Type 0) (line : ℕ) {x : TallyReply d}
     (f : Tally d → PerformResult d)
-    → CallRuns c P x → ((t : Tally d) → P (t .registers) → CallsRun c Q (f t)) → CallsRun c Q (continueWith line x f)
+    → OneCallRuns c P x → ((t : Tally d) → P (t .registers) → AllCallsRun c Q (f t)) → AllCallsRun c Q
+    (continueWith line x f)
 unfolding continueWith
 runs-on P Q line f (full l) h = full l
 runs-on P Q line f (on {t = t} p) h = h t p
 
 continue-then : {d : ℕ} {c : Capacity} (P Q : RegisterList d → Type 0) (line : ℕ) (x : TallyReply d)
     (f g : Tally d → PerformResult d)
-    → CallsRun c P (continueWith line x f) → ((t : Tally d) → CallsRun c P (f t) → CallsRun c Q (g t))
-    → CallsRun c Q (continueWith line x g)
+    → AllCallsRun c P (continueWith line x f) → ((t : Tally d) → AllCallsRun c P (f t) → AllCallsRun c Q (g t))
+    → AllCallsRun c Q (continueWith line x g)
 unfolding continueWith
 continue-then P Q line (answers.Ok n, t) f g r h = h t r
 continue-then P Q line (answers.No x, t) f g (full l) h = full l
@@ -66,16 +69,16 @@ continue-then P Q line (answers.Factor w, t) f g r h = h t r
 continue-then P Q line (answers.Differ, t) f g r h = h t r
 
 -- calls, and then more calls
-pub runs-append : {d : ℕ} {c : Capacity} (P Q : RegisterList d → Type 0) (xs ys : List Numbered) (t : Tally d)
-    → CallsRun c P (perform c xs t) → ((t : Tally d) → P (t .registers) → CallsRun c Q (perform c ys t))
-    → CallsRun c Q (perform c (xs ++ ys) t)
+pub runs-append : {d : ℕ} {c : Capacity} (P Q : RegisterList d → Type 0) (xs ys : List NumberedCall) (t : Tally d)
+    → AllCallsRun c P (perform c xs t) → ((t : Tally d) → P (t .registers) → AllCallsRun c Q (perform c ys t))
+    → AllCallsRun c Q (perform c (xs ++ ys) t)
 unfolding perform
 runs-append P Q [] ys t (end p) h = h t p
 runs-append {c = c} P Q ((line, x) ∷ xs) ys t r h =
     continue-then P Q line (answer c x t) (perform c xs) (perform c (xs ++ ys)) r (λ t r. runs-append P Q xs ys t r h)
 
-pub runs-less : {d : ℕ} {c : Capacity} {P Q : RegisterList d → Type 0} {x : PerformResult d} → CallsRun c P x
-    → ((l : RegisterList d) → P l → Q l) → CallsRun c Q x
+pub runs-less : {d : ℕ} {c : Capacity} {P Q : RegisterList d → Type 0} {x : PerformResult d} → AllCallsRun c P x
+    → ((l : RegisterList d) → P l → Q l) → AllCallsRun c Q x
 runs-less (full l) f = full l
 runs-less (end {t = t} p) f = end (f (t .registers) p)
 
@@ -119,7 +122,7 @@ module _ {d : ℕ} (r j : ℕ) (o : Option (Tensor d)) (r-small : r < 2) (j-smal
   -- each call of a gate
 
   gate-call-runs : (c : Capacity) (g : Gate) (T : Tensor d) (t : Tally d) → HoldsList r T j o (t .registers)
-      → CallRuns c (HoldsGate r T j o (gateTensor d g)) (answer c (call.Gate 2 g) t)
+      → OneCallRuns c (HoldsGate r T j o (gateTensor d g)) (answer c (call.Gate 2 g) t)
   unfolding answer
   gate-call-runs c g T t h =
       runs-settle c (HoldsGate r T j o (gateTensor d g)) 2 (build (gateTensor d g) (t .nodes)) t
@@ -127,7 +130,7 @@ module _ {d : ℕ} (r j : ℕ) (o : Option (Tensor d)) (r-small : r < 2) (j-smal
       (holds-list-gate (gateTensor d g) T (t .registers) h))
 
   cont-call-runs : (c : Capacity) (G T : Tensor d) (m : ℕ) (t : Tally d) → HoldsGate r T j o G (t .registers)
-      → CallRuns c (HoldsGate r (sumOver (bits m) (times G T)) j o G) (answer c (call.Cont r 2 r m) t)
+      → OneCallRuns c (HoldsGate r (sumOver (bits m) (times G T)) j o G) (answer c (call.Cont r 2 r m) t)
   unfolding answer withRegister Session.withTensor
   cont-call-runs c G T m t w =
       rw (w .gate, w .holding .here)
@@ -136,7 +139,7 @@ module _ {d : ℕ} (r j : ℕ) (o : Option (Tensor d)) (r-small : r < 2) (j-smal
 
   low-call-runs : (c : Capacity) (G T : Tensor d) (k : ℕ) (t : Tally d) → 1 ≤ k → k < d → Free (k - 1) T
       → HoldsGate r T j o G (t .registers)
-      → CallRuns c (HoldsGate r (renameDown k T) j o G) (answer c (call.Low r r k) t)
+      → OneCallRuns c (HoldsGate r (renameDown k T) j o G) (answer c (call.Low r r k) t)
   unfolding answer withRegister Session.withTensor
   low-call-runs c G T k t p q f w =
       rw (w .holding .here, free-depends (k - 1) T f)
@@ -144,18 +147,18 @@ module _ {d : ℕ} (r j : ℕ) (o : Option (Tensor d)) (r-small : r < 2) (j-smal
       (rw (writes-answer (low-writes k p q T f) (t .nodes)) (holds-gate-set G T (renameDown k T) (t .registers) w)))
 
   drop-call-runs : (c : Capacity) (G T : Tensor d) (t : Tally d) → HoldsGate r T j o G (t .registers)
-      → CallRuns c (HoldsList r T j o) (answer c (call.Drop 2) t)
+      → OneCallRuns c (HoldsList r T j o) (answer c (call.Drop 2) t)
   unfolding answer withRegister Session.withTensor accept
   drop-call-runs c G T t w = rw (w .gate) (on (holds-gate-drop G T (t .registers) w))
 
   collect-call-runs : (c : Capacity) (P : RegisterList d → Type 0) (t : Tally d) → P (t .registers)
-      → CallRuns c P (answer c call.Collect t)
+      → OneCallRuns c P (answer c call.Collect t)
   unfolding answer accept
   collect-call-runs c P t h = on h
 
   unit-call-runs : (c : Capacity) (n : ℕ) (t : Tally d) → length (t .registers) ≡ registerCount
       → getD (t .registers) j none ≡ o
-      → CallRuns c (HoldsList r (unitTensor d n) j o) (answer c (call.Unit r n) t)
+      → OneCallRuns c (HoldsList r (unitTensor d n) j o) (answer c (call.Unit r n) t)
   unfolding answer
   unit-call-runs c n t l e =
       runs-settle c (HoldsList r (unitTensor d n) j o) r (build (unitTensor d n) (t .nodes)) t
@@ -168,7 +171,7 @@ module _ {d : ℕ} (r j : ℕ) (o : Option (Tensor d)) (r-small : r < 2) (j-smal
 
   low-calls-run : (c : Capacity) (line least : ℕ) (G T : Tensor d) (qs : List ℕ) (t : Tally d)
       → Rising d least qs → AllFree qs T → HoldsGate r T j o G (t .registers)
-      → CallsRun c (HoldsGate r (renamedTensor qs T) j o G) (perform c (atLine line (lowCalls r qs)) t)
+      → AllCallsRun c (HoldsGate r (renamedTensor qs T) j o G) (perform c (atLine line (lowCalls r qs)) t)
   unfolding perform atLine lowCalls renamedTensor
   low-calls-run c line least G T [] t u f w = end w
   low-calls-run c line least G T (q ∷ qs) t u f w =
@@ -182,7 +185,7 @@ module _ {d : ℕ} (r j : ℕ) (o : Option (Tensor d)) (r-small : r < 2) (j-smal
   -- a gate's calls up to its last `low`
   made-runs : (c : Capacity) (line : ℕ) (g : Gate) (T : Tensor d) (t : Tally d) → Rising d 0 (qubits g)
       → HoldsList r T j o (t .registers)
-      → CallsRun c (HoldsGate r (appliedTensor g T) j o (gateTensor d g))
+      → AllCallsRun c (HoldsGate r (appliedTensor g T) j o (gateTensor d g))
       (perform c (atLine line (call.Gate 2 g ∷ call.Cont r 2 r (middles (qubits g)) ∷ lowCalls r (qubits g))) t)
   unfolding perform atLine appliedTensor contractedTensor
   made-runs c line g T t u h =
@@ -197,7 +200,7 @@ module _ {d : ℕ} (r j : ℕ) (o : Option (Tensor d)) (r-small : r < 2) (j-smal
       (all-free 0 (qubits g) (bits m) G T u (middles-set d 0 (qubits g) u)) w))
 
   dropped-runs : (c : Capacity) (line : ℕ) (G T : Tensor d) (t : Tally d) → HoldsGate r T j o G (t .registers)
-      → CallsRun c (HoldsList r T j o) (perform c (atLine line (call.Drop 2 ∷ call.Collect ∷ [])) t)
+      → AllCallsRun c (HoldsList r T j o) (perform c (atLine line (call.Drop 2 ∷ call.Collect ∷ [])) t)
   unfolding perform atLine
   dropped-runs c line G T t w =
       let Q = HoldsList r T j o in
@@ -208,7 +211,7 @@ module _ {d : ℕ} (r j : ℕ) (o : Option (Tensor d)) (r-small : r < 2) (j-smal
   -- 2`, `collect`"
   gate-runs : (c : Capacity) (line : ℕ) (g : Gate) (T : Tensor d) (t : Tally d) → Rising d 0 (qubits g)
       → HoldsList r T j o (t .registers)
-      → CallsRun c (HoldsList r (appliedTensor g T) j o) (perform c (atLine line (gateCalls r g)) t)
+      → AllCallsRun c (HoldsList r (appliedTensor g T) j o) (perform c (atLine line (gateCalls r g)) t)
   unfolding gateCalls
   gate-runs c line g T t u h =
       let made = call.Gate 2 g ∷ call.Cont r 2 r (middles (qubits g)) ∷ lowCalls r (qubits g) in
@@ -220,7 +223,7 @@ module _ {d : ℕ} (r j : ℕ) (o : Option (Tensor d)) (r-small : r < 2) (j-smal
 
   gates-run : (c : Capacity) (line : ℕ) (gs : List Gate) (T : Tensor d) (t : Tally d) → AllFit d gs
       → HoldsList r T j o (t .registers)
-      → CallsRun c (HoldsList r (appliedList gs T) j o) (perform c (gatesCalls r line gs) t)
+      → AllCallsRun c (HoldsList r (appliedList gs T) j o) (perform c (gatesCalls r line gs) t)
   unfolding gatesCalls appliedList perform
   gates-run c line [] T t u h = end h
   gates-run c line (g ∷ gs) T t u h =
@@ -231,7 +234,7 @@ module _ {d : ℕ} (r j : ℕ) (o : Option (Tensor d)) (r-small : r < 2) (j-smal
   -- one list, in register r
   pub list-runs : (c : Capacity) (n line : ℕ) (gs : List Gate) (t : Tally d) → AllFit d gs
       → length (t .registers) ≡ registerCount → getD (t .registers) j none ≡ o
-      → CallsRun c (HoldsList r (appliedList gs (unitTensor d n)) j o) (perform c (listCalls r n line gs) t)
+      → AllCallsRun c (HoldsList r (appliedList gs (unitTensor d n)) j o) (perform c (listCalls r n line gs) t)
   unfolding listCalls perform
   list-runs c n line gs t u l e =
       runs-on (HoldsList r (unitTensor d n) j o) (HoldsList r (appliedList gs (unitTensor d n)) j o) line

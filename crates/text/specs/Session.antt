@@ -8,7 +8,7 @@ use Prim.Native.Nat.{ℕ, _-_, suc, _+_}
 use lib.Dec.{leb}
 use lib.ListN.{replicate, length, set, getD}
 use Rattle.diagram.specs.Tensor.{Tensor, bits, value, constant, depends}
-use Rattle.diagram.specs.Tally.{Set, sum, cont, low, build, collect, filled}
+use Rattle.diagram.specs.Tally.{Set, sum, cont, low, build, collect, filledTensors}
 use Rattle.diagram.specs.Weights.{toWeight}
 use Rattle.diagram.specs.Gate.{gateTensor, unitTensor}
 use Rattle.diagram.specs.Compare.{compared}
@@ -28,11 +28,11 @@ use Rattle.text.specs.declared.call.Call.the-variants as call
 -- "Capacity is the lent store's bytes divided by 16, rounded down, at most 65,535; it may be 0." A list's tensor is
 -- defined at unlimited capacity.
 pub data Capacity : Type 0 where
-  most : ℕ → Capacity
+  atMost : ℕ → Capacity
   unlimited : Capacity
 
 abbrev pub fits : Capacity → ℕ → Bool
-fits (most c) n = leb n c
+fits (atMost c) n = leb n c
 fits unlimited n = true
 
 -- "It holds a set of normal tensors, empty at first, and sixteen registers, each empty or a tensor, all empty at
@@ -101,7 +101,7 @@ answer c (call.Drop a) t =
     withRegister t a (λ A. accept (record { nodes = t .nodes; registers = set (t .registers) a none }))
 -- "`collect`"
 answer c call.Collect t =
-    accept (record { nodes = collect (filled (t .registers)) (t .nodes); registers = t .registers })
+    accept (record { nodes = collect (filledTensors (t .registers)) (t .nodes); registers = t .registers })
 -- "`at a v`: answers `v` and the value at assignment v"
 answer c (call.At a v) t = withRegister t a (λ A. (Value (value A v .number), t))
 -- "`cmp a b`"

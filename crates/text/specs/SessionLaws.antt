@@ -9,13 +9,13 @@ use lib.Dec.{leb}
 use lib.ListN.{length, getD, set}
 use borrow.Author.Tests.{le-leb, leb-true}
 use Rattle.diagram.specs.Tensor.{Tensor, depends}
-use Rattle.diagram.specs.Tally.{Set, member, within, collect}
+use Rattle.diagram.specs.Tally.{Set, member, keepOnly, collect}
 use Rattle.text.specs.Text.{Bytes}
 use Rattle.text.specs.Limits.{answerRoom}
 use Rattle.text.specs.Line.{readLine}
 use Rattle.text.specs.Answer.{isNo}
 use Rattle.text.specs.Session.{Capacity, answer, TallyRun, withAnswer, stoppedRun, run, Tally, TallyReply, fits}
-use Rattle.text.specs.Session.{accept, refuse, settle, withTensor, withRegister, most, unlimited, nodeCount}
+use Rattle.text.specs.Session.{accept, refuse, settle, withTensor, withRegister, atMost, unlimited, nodeCount}
 use Rattle.text.specs.declared.call.Refusal.the-variants.{Full, Depends}
 use Rattle.text.specs.declared.call.Call.{Call}
 use Rattle.text.specs.declared.answer.Answer.the-variants.{Ok}
@@ -47,30 +47,31 @@ module _ {d : ℕ} (c : Capacity) (room : ℕ) where
 
 -- "A refused line leaves set and registers as they were."
 
-abbrev KeptIfRefused : {d : ℕ} → Tally d → TallyReply d → Type 0
-KeptIfRefused t y = isNo (y .0) ≡ true → y .1 ≡ t
+abbrev UnchangedIfRefused : {d : ℕ} → Tally d → TallyReply d → Type 0
+UnchangedIfRefused t y = isNo (y .0) ≡ true → y .1 ≡ t
 
 module _ {d : ℕ} (c : Capacity) (t : Tally d) where
-  kept-settle : (r : ℕ) (y : Tensor d × Set d) → KeptIfRefused t (settle c r y t)
+  kept-settle : (r : ℕ) (y : Tensor d × Set d) → UnchangedIfRefused t (settle c r y t)
   unfolding settle accept refuse
   kept-settle r y = go (fits c (length (y .1)))
     where
       go : (b : Bool)
-          → KeptIfRefused t
+          → UnchangedIfRefused t
           (cond b (accept (record { nodes = y .1; registers = set (t .registers) r (some (y .0)) })) (refuse Full t))
       go true e = absurd (false≢true e)
       go false e = refl
 
-  kept-register : (a : ℕ) (f : Tensor d → TallyReply d) → ((T : Tensor d) → KeptIfRefused t (f T))
-      → KeptIfRefused t (withRegister t a f)
+  kept-register : (a : ℕ) (f : Tensor d → TallyReply d) → ((T : Tensor d) → UnchangedIfRefused t (f T))
+      → UnchangedIfRefused t (withRegister t a f)
   unfolding withRegister withTensor refuse
   kept-register a f h = go (getD (t .registers) a none)
     where
-      go : (o : Option (Tensor d)) → KeptIfRefused t (withTensor o t f)
+      go : (o : Option (Tensor d)) → UnchangedIfRefused t (withTensor o t f)
       go none e = refl
       go (some T) e = h T e
 
-  kept-low : (b : Bool) (r : ℕ) (y : Tensor d × Set d) → KeptIfRefused t (cond b (refuse Depends t) (settle c r y t))
+  kept-low : (b : Bool) (r : ℕ) (y : Tensor d × Set d) → UnchangedIfRefused t
+      (cond b (refuse Depends t) (settle c r y t))
   unfolding refuse
   kept-low true r y = λ e. refl
   kept-low false r y = kept-settle r y
@@ -92,15 +93,16 @@ module _ {d : ℕ} (c : Capacity) (t : Tally d) where
 -- The tally's set never exceeds the capacity, so `put`, which puts nothing in, is never refused as full.
 
 fits-fewer : (c : Capacity) (m n : ℕ) → m ≤ n → fits c n ≡ true → fits c m ≡ true
-fits-fewer (most c) m n p e = le-leb m c (omega (arith, leb-true n c e))
+fits-fewer (atMost c) m n p e = le-leb m c (omega (arith, leb-true n c e))
 fits-fewer unlimited m n p e = refl
 
-within-fewer : {d : ℕ} (l : List (Tensor d)) (s : Set d) → length (within l s) ≤ length s
-unfolding within
-within-fewer l [] = omega arith
-within-fewer l (x ∷ s) = go (member x l) (within-fewer l s)
+keep-only-fewer : {d : ℕ} (l : List (Tensor d)) (s : Set d) → length (keepOnly l s) ≤ length s
+unfolding keepOnly
+keep-only-fewer l [] = omega arith
+keep-only-fewer l (x ∷ s) = go (member x l) (keep-only-fewer l s)
   where
-    go : (b : Bool) → length (within l s) ≤ length s → length (cond b (x ∷ within l s) (within l s)) ≤ suc (length s)
+    go : (b : Bool) → length (keepOnly l s) ≤ length s → length (cond b (x ∷ keepOnly l s) (keepOnly l s)) ≤ suc
+        (length s)
     go true p = omega arith
     go false p = omega arith
 
@@ -140,7 +142,7 @@ module _ {d : ℕ} (c : Capacity) (t : Tally d) (h : fits c (nodeCount t) ≡ tr
   answer-fits (call.Cont r a b m) = fit-register a _ (λ A. fit-register b _ (λ B. fit-settle r _))
   answer-fits (call.Low r a k) = fit-register a _ (λ A. fit-low (depends (k - 1) A) r _)
   answer-fits (call.Drop a) = fit-register a _ (λ A. h)
-  answer-fits call.Collect = fits-fewer c _ (length (t .nodes)) (within-fewer _ (t .nodes)) h
+  answer-fits call.Collect = fits-fewer c _ (length (t .nodes)) (keep-only-fewer _ (t .nodes)) h
   answer-fits (call.At a v) = fit-register a _ (λ A. h)
   answer-fits (call.Cmp a b) = fit-register a _ (λ A. fit-register b _ (λ B. h))
   answer-fits (call.Refused r) = h

@@ -10,7 +10,7 @@ use Rattle.diagram.specs.Tensor.{Tensor, indices}
 use Rattle.diagram.specs.Node.{capacity}
 use Rattle.text.specs.Text.{Bytes, bytes}
 use Rattle.text.specs.Print.{decimal}
-use Rattle.text.specs.Session.{Capacity, emptyTally, most}
+use Rattle.text.specs.Session.{Capacity, emptyTally, atMost}
 use Rattle.text.specs.Check.{lists, readText, fault}
 use Rattle.text.specs.Ruling.{faultNumber}
 use Rattle.text.specs.VerdictSession.{listTensor, sessionCalls, refusedAt, perform}
@@ -89,24 +89,25 @@ pub record VerdictBytes {X : Type 0} (Of : ℕ → List Gate → X → Type 0) (
   pub within : r .bytes ≤ length o'
   pub untouched : drop (r .bytes) o' ≡ drop (r .bytes) o
   -- "A verdict is "same" exactly when both lists' tensors agree at every assignment over document 01's field,
-  pub same : (bytesOf r o' ≡ sameLine) ↔ ListsAre Of (most (capacity s)) text E
+  pub same : (bytesOf r o' ≡ sameLine) ↔ ListsAre Of (atMost (capacity s)) text E
   -- "factor" exactly when they differ and one is a nonzero multiple of the other,
   pub factor : ((f : ℕ) × (bytesOf r o' ≡ factorLine f))
-      ↔ ListsAre Of (most (capacity s)) text (λ A B. (¬ E A B) × ((f : ℕ) × (T f A B ⊎ T f B A)))
+      ↔ ListsAre Of (atMost (capacity s)) text (λ A B. (¬ E A B) × ((f : ℕ) × (T f A B ⊎ T f B A)))
   -- else "differ"";
   pub differ : (bytesOf r o' ≡ differLine)
-      ↔ ListsAre Of (most (capacity s)) text (λ A B. (¬ E A B) × (¬ ((f : ℕ) × (T f A B ⊎ T f B A))))
+      ↔ ListsAre Of (atMost (capacity s)) text (λ A B. (¬ E A B) × (¬ ((f : ℕ) × (T f A B ⊎ T f B A))))
   -- which f: "`factor` and f where a is f times b, f not 0 or 1"
   pub factor-of : (f : ℕ) → (bytesOf r o' ≡ factorLine f)
-      ↔ ListsAre Of (most (capacity s)) text (λ A B. (¬ E A B) × (f ≢ 1) × T f A B)
+      ↔ ListsAre Of (atMost (capacity s)) text (λ A B. (¬ E A B) × (f ≢ 1) × T f A B)
   -- "full stores, malformed texts .. are refused by the stated rules": "Refused as `no`, number, line counted from 1".
   -- A text that is lent is shorter than 2 ^ 64 bytes, and the line is one of it or the next, so that 20 digits hold it.
   pub no : length text < 2 ^ 64 → (f : Fault) (line : ℕ) → line < 10 ^ 20
-      → (bytesOf r o' ≡ noLine f line) ↔ RefusedAt (most (capacity s)) text f line
-  pub no-line : (f : Fault) (line : ℕ) → RefusedAt (most (capacity s)) text f line → line ≤ length text + 1
+      → (bytesOf r o' ≡ noLine f line) ↔ RefusedAt (atMost (capacity s)) text f line
+  pub no-line : (f : Fault) (line : ℕ) → RefusedAt (atMost (capacity s)) text f line → line ≤ length text + 1
   -- and of a text of any length the fault, and a line with these digits
   pub no-digits : (f : Fault) (line : ℕ)
-      → (bytesOf r o' ≡ noLine f line) ↔ ((l : ℕ) × (decimal l ≡ decimal line) × RefusedAt (most (capacity s)) text f l)
+      → (bytesOf r o' ≡ noLine f line) ↔ ((l : ℕ) × (decimal l ≡ decimal line) × RefusedAt (atMost (capacity s)) text f
+      l)
   -- and nothing else is ever written
   pub one-of-four : OneOfFour (bytesOf r o')
 

@@ -15,7 +15,7 @@ use Rattle.text.specs.Check.{gateItemFields, itemOf, withSecond, secondI
 use Rattle.text.specs.Check.{firstList, headerOf, afterHeader, readLines}
 use Rattle.text.specs.VerdictSession.{rulingOfReading, rulingOn, rulingOfAnswer}
 use Rattle.text.specs.VerdictMeaning.{NotFull}
-use Rattle.text.specs.Runs.{Judged, was-full, was-compared}
+use Rattle.text.specs.Runs.{GoodTextRuling, was-full, was-compared}
 use Rattle.text.specs.ArgsLaws.{by-count}
 use Rattle.text.specs.VerdictSessionLaws.{ruling-judged}
 use Rattle.text.specs.declared.check.Fault.{Fault}
@@ -23,14 +23,14 @@ use Rattle.text.specs.declared.ruling.Ruling.the-variants.{No, Same, Fac
 use Rattle.text.specs.declared.check.Item.{Item}
 use Rattle.text.specs.declared.ruling.Ruling.{Ruling}
 use Rattle.diagram.specs.declared.gate.Gate.{Gate}
-use Rattle.text.specs.declared.names.Named.{Named}
+use Rattle.text.specs.declared.names.NameResult.{NameResult}
 use Rattle.text.specs.declared.args.Args.the-variants.{None}
 use Rattle.text.specs.declared.check.Header.{Header}
 use Rattle.text.specs.declared.check.Header.the-variants.{Of, Bad}
 use Rattle.diagram.specs.declared.compare.Comparison.{Comparison}
 use Rattle.text.specs.declared.check.Fault.the-variants as faults
 use Rattle.text.specs.declared.check.Item.the-variants as item
-use Rattle.text.specs.declared.names.Named.the-variants as named
+use Rattle.text.specs.declared.names.NameResult.the-variants as named
 use Rattle.diagram.specs.declared.compare.Comparison.the-variants as compare
 
 -- A text with a fault is answered by it: "the first faulty line decides".
@@ -69,15 +69,15 @@ unfolding ensured
 ensured-early true f next p q = q
 ensured-early false f next p q = p
 
-known-early : (x : Named) (next : Gate → Item) → ((g : Gate) → EarlyItem (next g))
+known-early : (x : NameResult) (next : Gate → Item) → ((g : Gate) → EarlyItem (next g))
     → EarlyItem (known (item.Faulty faults.Line) x next)
 known-early named.Unknown next h = tt
 known-early (named.Gate g) next h = h g
 
-one-early : (n q : ℕ) (x : Named) → EarlyItem (oneQubitItem n q x)
+one-early : (n q : ℕ) (x : NameResult) → EarlyItem (oneQubitItem n q x)
 one-early n q x = known-early x _ (λ g. ensured-early (ltb q n) faults.Qubit (item.Gate g) tt tt)
 
-two-early : (n p q : ℕ) (x : Named) → EarlyItem (twoQubitItem n p q x)
+two-early : (n p q : ℕ) (x : NameResult) → EarlyItem (twoQubitItem n p q x)
 two-early n p q x =
     known-early x _ (λ g. ensured-early (ltb p n) faults.Qubit _ tt
     (ensured-early (ltb q n) faults.Qubit _ tt (ensured-early _ faults.Equal (item.Gate g) tt tt)))
@@ -141,7 +141,7 @@ reading-early text = by-lines (lines text)
 pub verdict-never-full : (text : Bytes) → NotFull unlimited text
 verdict-never-full text line q = go (readText text) refl (reading-early text)
   where
-    judged-early : {d : ℕ} {T U : Tensor d} {r : Ruling} → Judged unlimited T U r → EarlyRuling r
+    judged-early : {d : ℕ} {T U : Tensor d} {r : Ruling} → GoodTextRuling unlimited T U r → EarlyRuling r
     judged-early (was-full line l) = absurd l
     judged-early {T = T} {U} was-compared = by-comparison (compared T U)
       where

@@ -8,7 +8,7 @@ use Rattle.text.specs.Text.{Bytes, lines}
 use Rattle.text.specs.Session.{Capacity, Tally, TallyReply, answer, emptyTally}
 use Rattle.text.specs.Check.{Reading, lists, fault, itemOf, withSecond, secondItem, secondList, withFirst}
 use Rattle.text.specs.Check.{firstItem, firstList, headerOf, afterHeader, readLines, readText}
-use Rattle.text.specs.VerdictSession.{Numbered, atLine, gateCalls, gatesCalls, listCalls, sessionCalls}
+use Rattle.text.specs.VerdictSession.{NumberedCall, atLine, gateCalls, gatesCalls, listCalls, sessionCalls}
 use Rattle.text.specs.VerdictSession.{PerformResult, refusedAt, continueWith, perform}
 use Rattle.text.specs.SplitLaws.{lines-count}
 use Rattle.text.specs.declared.check.Item.{Item}
@@ -79,11 +79,11 @@ lists-lines text e =
     omega (arith, subst (LinesWithin 2 1 (lines text)) e (reading-within (lines text)), lines-count text)
 
 -- Running: each call is of a line up to m
-abbrev AllMost : ℕ → List Numbered → Type 0
+abbrev AllMost : ℕ → List NumberedCall → Type 0
 AllMost m [] = Unit {0}
 AllMost m ((line, x) ∷ xs) = (line ≤ m) × AllMost m xs
 
-most-append : (m : ℕ) (xs ys : List Numbered) → AllMost m xs → AllMost m ys → AllMost m (xs ++ ys)
+most-append : (m : ℕ) (xs ys : List NumberedCall) → AllMost m xs → AllMost m ys → AllMost m (xs ++ ys)
 most-append m [] ys p q = q
 most-append m ((line, x) ∷ xs) ys p q = (p .0, most-append m xs ys (p .1) q)
 
@@ -110,21 +110,21 @@ most-session n gs hs =
     (most-list _ 1 n (length gs + 2) hs (omega arith))
 
 module _ {d : ℕ} (c : Capacity) (m line : ℕ) (r : Refusal) where
-  onward-most : (l : ℕ) → l ≤ m → (y : TallyReply d) (f : Tally d → PerformResult d)
+  continue-most : (l : ℕ) → l ≤ m → (y : TallyReply d) (f : Tally d → PerformResult d)
       → ((t : Tally d) → f t ≡ refusedAt line r → line ≤ m)
       → continueWith l y f ≡ refusedAt line r → line ≤ m
   unfolding continueWith
-  onward-most l p (answers.Ok n, t) f h e = h t e
-  onward-most l p (answers.No x, t) f h e = let z : l ≡ line = cc in omega arith
-  onward-most l p (answers.Value w, t) f h e = h t e
-  onward-most l p (answers.Same, t) f h e = h t e
-  onward-most l p (answers.Factor w, t) f h e = h t e
-  onward-most l p (answers.Differ, t) f h e = h t e
+  continue-most l p (answers.Ok n, t) f h e = h t e
+  continue-most l p (answers.No x, t) f h e = let z : l ≡ line = cc in omega arith
+  continue-most l p (answers.Value w, t) f h e = h t e
+  continue-most l p (answers.Same, t) f h e = h t e
+  continue-most l p (answers.Factor w, t) f h e = h t e
+  continue-most l p (answers.Differ, t) f h e = h t e
 
-  perform-most : (xs : List Numbered) → AllMost m xs → (t : Tally d) → perform c xs t ≡ refusedAt line r → line ≤ m
+  perform-most : (xs : List NumberedCall) → AllMost m xs → (t : Tally d) → perform c xs t ≡ refusedAt line r → line ≤ m
   unfolding perform
   perform-most [] p t e = absurd (let z : _≡_ {A = ℕ} 0 1 = cc in omega arith)
-  perform-most ((l, x) ∷ xs) p t e = onward-most l (p .0) (answer c x t) (perform c xs) (perform-most xs (p .1)) e
+  perform-most ((l, x) ∷ xs) p t e = continue-most l (p .0) (answer c x t) (perform c xs) (perform-most xs (p .1)) e
 
 -- "8 full, at the line being run"
 pub full-line : {d : ℕ} (c : Capacity) (text : Bytes) {n : ℕ} {gs hs : List Gate} {line : ℕ} {r : Refusal}

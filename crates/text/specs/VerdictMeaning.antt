@@ -10,7 +10,7 @@ use Rattle.diagram.specs.Weights.{toWeight, timesW, modulus}
 use Rattle.text.specs.Text.{Bytes}
 use Rattle.text.specs.Session.{Capacity}
 use Rattle.text.specs.VerdictSession.{rulingOn, listTensor}
-use Rattle.text.specs.Agrees.{Agree}
+use Rattle.text.specs.Agrees.{AgreeEverywhere}
 use Rattle.text.specs.Product.{BasisState, Operator, listMatrix}
 use Rattle.text.specs.declared.check.Fault.the-variants.{Full}
 use Rattle.text.specs.declared.ruling.Ruling.the-variants.{No, Same, Factor, Differ}
@@ -41,15 +41,16 @@ pub record VerdictMeans (c : Capacity) (text : Bytes) (n : ℕ) (gs hs : List Ga
   pub first-is : listTensor indices n gs ≡ some first
   pub second-is : listTensor indices n hs ≡ some second
   -- "A verdict is "same" exactly when both lists' tensors agree at every assignment over document 01's field,
-  pub same : (rulingOn indices c text ≡ Same) ↔ Agree first second
+  pub same : (rulingOn indices c text ≡ Same) ↔ AgreeEverywhere first second
   -- "factor" exactly when they differ and one is a nonzero multiple of the other,
-  pub factor : ((f : ℕ) × (rulingOn indices c text ≡ Factor f)) ↔ ((¬ Agree first second) × Multiples first second)
+  pub factor : ((f : ℕ) × (rulingOn indices c text ≡ Factor f))
+      ↔ ((¬ AgreeEverywhere first second) × Multiples first second)
   -- else "differ""; and there is no other answer
-  pub differ : (rulingOn indices c text ≡ Differ) ↔ ((¬ Agree first second) × (¬ Multiples first second))
+  pub differ : (rulingOn indices c text ≡ Differ) ↔ ((¬ AgreeEverywhere first second) × (¬ Multiples first second))
   pub no-other : (f : Fault) (line : ℕ) → rulingOn indices c text ≢ No f line
   -- which f: "`factor` and f where a is f times b, f not 0 or 1"
   pub factor-of : (f : ℕ)
-      → (rulingOn indices c text ≡ Factor f) ↔ ((¬ Agree first second) × (f ≢ 1) × IsTimes f first second)
+      → (rulingOn indices c text ≡ Factor f) ↔ ((¬ AgreeEverywhere first second) × (f ≢ 1) × IsTimes f first second)
 
 -- The same in terms of the lists' matrices.
 
@@ -78,6 +79,8 @@ pub record VerdictMatrices (c : Capacity) (text : Bytes) (n : ℕ) (gs hs : List
       ↔ ((¬ EqualMatrices (listMatrix n gs) (listMatrix n hs))
       × (f ≢ 1) × MatrixIsTimes f (listMatrix n gs) (listMatrix n hs))
 
+-- What a ruling says, where E is that the two are equal, M f that the first is f times the second, and N f that the
+-- second is f times the first.
 pub record Meaning (r : Ruling) (E : Type 0) (M N : ℕ → Type 0) : Type 0 where
   pub same : (r ≡ Same) ↔ E
   pub factor : ((f : ℕ) × (r ≡ Factor f)) ↔ ((¬ E) × ((f : ℕ) × (M f ⊎ N f)))

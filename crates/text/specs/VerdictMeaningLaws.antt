@@ -4,11 +4,14 @@ use mathlib.Core.Logic.{_≢_, _⊎_, inl, inr, _↔_, Iff·trans, Iff·not, Iff
 use mathlib.Core.List.{List}
 use Prim.Native.Nat.{ℕ, _<_, _*_, _≤_}
 use native.Mathlib.Omega.{arith}
-use Rattle.diagram.specs.Weights.{modulus, Weight, toWeight, weight-number, weight-zero}
-use Rattle.diagram.specs.Weights.{Nonzero, nonzero-weight, nonzero-not}
-use Rattle.diagram.specs.Weights.{inverseW, inverse-nonzero, weight-one, number-weight}
+use Rattle.diagram.specs.Weights.{modulus, Weight, toWeight}
+use Rattle.diagram.specs.WeightsLaws.{weight-number, weight-zero}
+use Rattle.diagram.specs.Weights.{Nonzero}
+use Rattle.diagram.specs.WeightsLaws.{nonzero-weight, nonzero-not}
+use Rattle.diagram.specs.Weights.{inverseW}
+use Rattle.diagram.specs.WeightsLaws.{inverse-nonzero, weight-one, number-weight}
 use Rattle.diagram.specs.Tensor.{Tensor, scale, indices, indices-count}
-use Rattle.diagram.specs.ScaleLaws.{unscale}
+use Rattle.diagram.specs.TensorScaleLaws.{unscale}
 use Rattle.diagram.specs.TensorLaws.{scale-one}
 use Rattle.diagram.specs.Compare.{compared, ComparisonMeans}
 use Rattle.diagram.specs.CompareLaws.{compared-same, compared-factor, compared-differ, compared-means}
@@ -23,7 +26,7 @@ use Rattle.text.specs.VerdictSession.{perform, rulingOfReading, rulingOn
 use Rattle.text.specs.Product.{listMatrix}
 use Rattle.text.specs.VerdictMeaning.{Meaning, IsTimes, NotFull, VerdictMeans, MatrixIsTimes, VerdictMatrices}
 use Rattle.text.specs.Apply.{appliedList}
-use Rattle.text.specs.Runs.{RegisterList, CallsRun, full, end, Judged, was-full, was-compared}
+use Rattle.text.specs.Runs.{RegisterList, AllCallsRun, full, end, GoodTextRuling, was-full, was-compared}
 use Rattle.text.specs.QubitsLaws.{placed-fit}
 use Rattle.text.specs.VerdictSessionLaws.{session-runs, list-tensor, good-lists, ruling-judged}
 use Rattle.text.specs.ProductLaws.{lists-same, lists-multiple}
@@ -69,31 +72,31 @@ scaled-one {A = A} {B} n s q = n (s .is ∙ ap (λ w. scale w B) (ap toWeight q 
 -- What a ruling says: E that the two are equal, M f that the first is f times the second, N f that the second is f
 -- times the first
 
-abbrev Said : Type 0 → (ℕ → Type 0) → (ℕ → Type 0) → Ruling → Type 0
-Said E M N Same = E
-Said E M N (Factor f) = (¬ E) × (f ≢ 1) × M f
-Said E M N Differ = (¬ E) × (¬ ((f : ℕ) × (M f ⊎ N f)))
-Said E M N (No f line) = ⊥
+abbrev RulingMeans : Type 0 → (ℕ → Type 0) → (ℕ → Type 0) → Ruling → Type 0
+RulingMeans E M N Same = E
+RulingMeans E M N (Factor f) = (¬ E) × (f ≢ 1) × M f
+RulingMeans E M N Differ = (¬ E) × (¬ ((f : ℕ) × (M f ⊎ N f)))
+RulingMeans E M N (No f line) = ⊥
 
-abbrev Tells : {d : ℕ} → Tensor d → Tensor d → Ruling → Type 0
-Tells A B r = Meaning r (A ≡ B) (λ f. Scaled f A B) (λ f. Scaled f B A)
+abbrev TensorsMean : {d : ℕ} → Tensor d → Tensor d → Ruling → Type 0
+TensorsMean A B r = Meaning r (A ≡ B) (λ f. Scaled f A B) (λ f. Scaled f B A)
 
 -- comparing two tensors
 module _ {d : ℕ} (A B : Tensor d) where
   abbrev comparedRuling : Comparison → Ruling
   comparedRuling x = rulingOfAnswer (comparison x)
 
-  said : (x : Comparison) → ComparisonMeans A B x
-      → Said (A ≡ B) (λ f. Scaled f A B) (λ f. Scaled f B A) (comparedRuling x)
-  said compare.Same e = e
-  said (compare.Factor f) m =
+  ruling-means : (x : Comparison) → ComparisonMeans A B x
+      → RulingMeans (A ≡ B) (λ f. Scaled f A B) (λ f. Scaled f B A) (comparedRuling x)
+  ruling-means compare.Same e = e
+  ruling-means (compare.Factor f) m =
       let s : Scaled f A B = record {
         weight = m .small;
         nonzero = λ q. nonzero-not (m .nonzero) (ap toWeight q ∙ weight-zero);
         is = m .is;
       } in
       (m .differ, scaled-one (m .differ) s, s)
-  said compare.Differ p = (p .differ, apart)
+  ruling-means compare.Differ p = (p .differ, apart)
     where
       alone : (f : ℕ) → ¬ Scaled f A B
       alone f s = p .multiple (toWeight f) (scaled-nonzero s) (s .is)
@@ -107,29 +110,34 @@ module _ {d : ℕ} (A B : Tensor d) where
       ap comparedRuling (compared-factor A B (toWeight f) n (scaled-nonzero s) (s .is))
       ∙ ap Factor (number-weight f (s .weight))
 
-  tells-compared : Tells A B (comparedRuling (compared A B))
+  tells-compared : TensorsMean A B (comparedRuling (compared A B))
   tells-compared = record {
-    same = (tells Same, λ e. ap comparedRuling (compared-same A B e));
-    factor = (λ p. let s = tells (Factor (p .0)) (p .1) in (s .0, (p .0, inl (s .2))), λ p. some-factor (p .0) (p .1));
+    same = (tensors-mean Same, λ e. ap comparedRuling (compared-same A B e));
+    factor = (
+      λ p. let s = tensors-mean (Factor (p .0)) (p .1) in (s .0, (p .0, inl (s .2))),
+      λ p. some-factor (p .0) (p .1),
+    );
     differ = (
-      tells Differ,
+      tensors-mean Differ,
       λ p. ap comparedRuling (compared-differ A B (record
           { differ = p .0; multiple = λ f z e. p .1 (f .number, inl (scaled-weight f A B z e)) })),
     );
-    no-other = λ f line. tells (No f line);
-    factor-of = λ f. (tells (Factor f), λ p. is-factor f (p .0) (p .2));
+    no-other = λ f line. tensors-mean (No f line);
+    factor-of = λ f. (tensors-mean (Factor f), λ p. is-factor f (p .0) (p .2));
   }
     where
-      tells : (r : Ruling) → comparedRuling (compared A B) ≡ r → Said (A ≡ B) (λ f. Scaled f A B) (λ f. Scaled f B A) r
-      tells r e =
-          subst (Said (A ≡ B) (λ f. Scaled f A B) (λ f. Scaled f B A)) e (said (compared A B) (compared-means A B))
+      tensors-mean : (r : Ruling) → comparedRuling (compared A B) ≡ r → RulingMeans (A ≡ B) (λ f. Scaled f A B)
+          (λ f. Scaled f B A) r
+      tensors-mean r e =
+          subst (RulingMeans (A ≡ B) (λ f. Scaled f A B) (λ f. Scaled f B A)) e
+          (ruling-means (compared A B) (compared-means A B))
 
       some-factor : A ≢ B → (f : ℕ) × (Scaled f A B ⊎ Scaled f B A)
           → (f : ℕ) × (comparedRuling (compared A B) ≡ Factor f)
       some-factor n (f, inl s) = (f, is-factor f n s)
       some-factor n (f, inr s) = (_, is-factor _ n (scaled-back s))
 
--- the same said in other words
+-- the same ruling-means in other words
 
 either : {M M' N N' : ℕ → Type 0} → ((f : ℕ) → M f → M' f) → ((f : ℕ) → N f → N' f) → (f : ℕ) × (M f ⊎ N f)
     → (f : ℕ) × (M' f ⊎ N' f)
@@ -170,7 +178,7 @@ scaled-values A B f = (
   },
 )
 
--- what is refused in a verdict's session is refused as full, and said as that
+-- what is refused in a verdict's session is refused as full, and ruling-means as that
 
 ruling-not-no : (a : Answer) (f : Fault) (line : ℕ) → rulingOfAnswer a ≢ No f line
 ruling-not-no answers.Same f line e = let z : _≡_ {A = ℕ} 0 1 = cc in omega arith
@@ -180,7 +188,7 @@ ruling-not-no (answers.Ok k) f line e = let z : _≡_ {A = ℕ} 0 1 = cc in omeg
 ruling-not-no (answers.No r) f line e = let z : _≡_ {A = ℕ} 0 1 = cc in omega arith
 ruling-not-no (answers.Value w) f line e = let z : _≡_ {A = ℕ} 0 1 = cc in omega arith
 
-ruling-full : {d : ℕ} (c : Capacity) {P : RegisterList d → Type 0} {x : PerformResult d} → CallsRun c P x
+ruling-full : {d : ℕ} (c : Capacity) {P : RegisterList d → Type 0} {x : PerformResult d} → AllCallsRun c P x
     → (f : Fault) (line : ℕ)
     → (rulingAtEnd c x ≡ No f line) ↔ ((f ≡ faults.Full) × (x ≡ refusedAt line refusal.Full))
 unfolding rulingAtEnd
@@ -213,15 +221,16 @@ module _ (c : Capacity) (text : Bytes) {n : ℕ} {gs hs : List Gate} (e : readTe
   verdict-refused f line =
       rw e (ruling-full c (session-runs c n gs hs (fit gs (good .first)) (fit hs (good .second))) f line)
 
-  tells-verdict : NotFull c text → Tells (listTensorOf gs) (listTensorOf hs) (rulingOn indices c text)
+  tells-verdict : NotFull c text → TensorsMean (listTensorOf gs) (listTensorOf hs) (rulingOn indices c text)
   tells-verdict h = go (ruling-judged c text e) h
     where
-      go : {r : Ruling} → Judged c (listTensorOf gs) (listTensorOf hs) r → ((line : ℕ) → r ≢ No faults.Full line)
-          → Tells (listTensorOf gs) (listTensorOf hs) r
+      go : {r : Ruling} → GoodTextRuling c (listTensorOf gs) (listTensorOf hs) r
+          → ((line : ℕ) → r ≢ No faults.Full line)
+          → TensorsMean (listTensorOf gs) (listTensorOf hs) r
       go (was-full line l) h = absurd (h line refl)
       go was-compared h = tells-compared (listTensorOf gs) (listTensorOf hs)
 
-  -- "same", "factor" and "differ" are said exactly where the lists' tensors stand so
+  -- "same", "factor" and "differ" are ruling-means exactly where the lists' tensors stand so
   pub verdict-means : NotFull c text → VerdictMeans c text n gs hs
   verdict-means h =
       let t = meaning-carry (agree-exactly (listTensorOf gs) (listTensorOf hs))

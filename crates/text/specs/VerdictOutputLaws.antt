@@ -13,7 +13,7 @@ use Rattle.diagram.specs.Node.{capacity}
 use Rattle.text.specs.Text.{Bytes}
 use Rattle.text.specs.Limits.{verdictRoom}
 use Rattle.text.specs.Print.{written}
-use Rattle.text.specs.Session.{most, Capacity, emptyTally}
+use Rattle.text.specs.Session.{atMost, Capacity, emptyTally}
 use Rattle.text.specs.Check.{Reading, lists, fault, readText}
 use Rattle.text.specs.Ruling.{printedRuling}
 use Rattle.text.specs.VerdictSession.{rulingOn, verdictResult, sessionCalls, perform, refusedAt}
@@ -40,9 +40,9 @@ written-start o s = let z : 0 + length s ≡ length s = omega arith in rw z
 module _ {text s o o' : Bytes} {r : VerdictResult} (room : verdictRoom ≤ length o)
     (g : VerdictEnsures text s o o' r) where
   abbrev expected : Bytes
-  expected = printedRuling (rulingOn indices (most (capacity s)) text)
+  expected = printedRuling (rulingOn indices (atMost (capacity s)) text)
 
-  given : verdictResult indices (most (capacity s)) (length o) text ≡ (0, expected)
+  given : verdictResult indices (atMost (capacity s)) (length o) text ≡ (0, expected)
   unfolding verdictResult
   given = rw (le-ltb _ _ room)
 
@@ -65,18 +65,15 @@ module _ {text s o o' : Bytes} {r : VerdictResult} (room : verdictRoom ≤ lengt
 -- not full.
 
 module _ (c : Capacity) (text : Bytes) where
-  abbrev pub theRuling : Ruling
-  theRuling = rulingOn indices c text
-
   pub not-full : {n : ℕ} {gs hs : List Gate} → readText text ≡ lists n gs hs
       → ((line : ℕ) → perform {d = indices} c (sessionCalls n gs hs) emptyTally ≢ refusedAt line refusal.Full)
       → NotFull c text
   not-full e h line q = h line (verdict-refused c text e Full line .0 q .1)
 
-  pub refused-at : (f : Fault) (line : ℕ) → (theRuling ≡ No f line) ↔ RefusedAt c text f line
+  pub refused-at : (f : Fault) (line : ℕ) → (rulingOn indices c text ≡ No f line) ↔ RefusedAt c text f line
   refused-at f line = (λ q. to q (readText text) refl, from)
     where
-      to : theRuling ≡ No f line → (x : Reading) → readText text ≡ x → RefusedAt c text f line
+      to : rulingOn indices c text ≡ No f line → (x : Reading) → readText text ≡ x → RefusedAt c text f line
       to q (lists n gs hs) e =
           let p = verdict-refused c text e f line .0 q in
           inr (p .0, record { n = n; gs = gs; hs = hs; good = e; full = p .1 })
@@ -86,7 +83,7 @@ module _ (c : Capacity) (text : Bytes) where
           let l' : l ≡ line = cc in
           inl (rw (← p, ← l') e)
 
-      from : RefusedAt c text f line → theRuling ≡ No f line
+      from : RefusedAt c text f line → rulingOn indices c text ≡ No f line
       from (inl e) = verdict-fault c text e
       from (inr (z, a)) = verdict-refused c text (a .good) f line .1 (z, a .full)
 
@@ -95,10 +92,10 @@ module _ (c : Capacity) (text : Bytes) where
   line-most f line (inr (z, a)) = omega (arith, full-line {d = indices} c text (a .good) (a .full))
 
   -- a factor is a weight
-  pub factor-small : (f : ℕ) → theRuling ≡ Factor f → f < modulus
+  pub factor-small : (f : ℕ) → rulingOn indices c text ≡ Factor f → f < modulus
   factor-small f q = go (readText text) refl
     where
-      no-refusal : (g : Fault) (line : ℕ) → theRuling ≢ No g line
+      no-refusal : (g : Fault) (line : ℕ) → rulingOn indices c text ≢ No g line
       no-refusal g line p = let z : Factor f ≡ No g line = sym q ∙ p in let o : _≡_ {A = ℕ} 0 1 = cc in omega arith
 
       go : (x : Reading) → readText text ≡ x → f < modulus

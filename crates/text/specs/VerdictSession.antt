@@ -34,23 +34,23 @@ gateCalls r g =
     (call.Gate 2 g ∷ call.Cont r 2 r (middles (qubits g)) ∷ lowCalls r (qubits g)) ++ (call.Drop 2 ∷ call.Collect ∷ [])
 
 -- calls with the line that they are of: "8 full, at the line being run, a unit at its header or `=`"
-abbrev pub Numbered : Type 0
-Numbered = ℕ × Call
+abbrev pub NumberedCall : Type 0
+NumberedCall = ℕ × Call
 
-unfoldable pub atLine : ℕ → List Call → List Numbered
+unfoldable pub atLine : ℕ → List Call → List NumberedCall
 atLine line [] = []
 atLine line (c ∷ cs) = (line, c) ∷ atLine line cs
 
-unfoldable pub gatesCalls : ℕ → ℕ → List Gate → List Numbered
+unfoldable pub gatesCalls : ℕ → ℕ → List Gate → List NumberedCall
 gatesCalls r line [] = []
 gatesCalls r line (g ∷ gs) = atLine line (gateCalls r g) ++ gatesCalls r (line + 1) gs
 
 -- one list of gates on n qubits: "`unit` in 0; each gate .."
-unfoldable pub listCalls : ℕ → ℕ → ℕ → List Gate → List Numbered
+unfoldable pub listCalls : ℕ → ℕ → ℕ → List Gate → List NumberedCall
 listCalls r n line gs = (line, call.Unit r n) ∷ gatesCalls r (line + 1) gs
 
 -- the first list from the header on, "then the same in register 1" from the line `=` on
-unfoldable pub sessionCalls : ℕ → List Gate → List Gate → List Numbered
+unfoldable pub sessionCalls : ℕ → List Gate → List Gate → List NumberedCall
 sessionCalls n gs hs = listCalls 0 n 1 gs ++ listCalls 1 n (length gs + 2) hs
 
 -- calls run until one is refused
@@ -66,7 +66,7 @@ continueWith line (answers.Same, t) f = f t
 continueWith line (answers.Factor w, t) f = f t
 continueWith line (answers.Differ, t) f = f t
 
-unfoldable pub perform : {d : ℕ} → Capacity → List Numbered → Tally d → PerformResult d
+unfoldable pub perform : {d : ℕ} → Capacity → List NumberedCall → Tally d → PerformResult d
 perform c [] t = endedWith t
 perform c ((line, x) ∷ xs) t = continueWith line (answer c x t) (perform c xs)
 

@@ -11,13 +11,13 @@ use Rattle.text.specs.Text.{Bytes, lines}
 use Rattle.text.specs.Limits.{registerCount, mostQubits}
 use Rattle.text.specs.Session.{emptyTally, unlimited, Capacity, answer, withRegister, withTensor}
 use Rattle.text.specs.Check.{AllPlaced, Reading, lists, fault, itemOf, withSecond, secondItem, secondList}
-use Rattle.text.specs.Check.{PlacedItem, withFirst, firstItem, firstList, GoodLists, RangedHeader, headerOf}
+use Rattle.text.specs.Check.{PlacedItem, withFirst, firstItem, firstList, GoodLists, HeaderInRange, headerOf}
 use Rattle.text.specs.Check.{afterHeader, readLines, readText}
 use Rattle.text.specs.Qubits.{AllFit}
 use Rattle.text.specs.VerdictSession.{PerformResult, registerTensor, listTensor, listCalls, sessionCalls, perform}
 use Rattle.text.specs.VerdictSession.{rulingAtEnd, rulingOfReading, rulingOn}
 use Rattle.text.specs.Apply.{appliedList}
-use Rattle.text.specs.Runs.{full, CallsRun, end, HoldsList, HoldsBoth, Judged, was-full, was-compared}
+use Rattle.text.specs.Runs.{full, AllCallsRun, end, HoldsList, HoldsBoth, GoodTextRuling, was-full, was-compared}
 use Rattle.text.specs.CheckLaws.{item-placed, header-read}
 use Rattle.text.specs.QubitsLaws.{placed-fit}
 use Rattle.text.specs.RunsLaws.{list-runs, runs-append, runs-less}
@@ -43,7 +43,7 @@ list-tensor d n gs u =
     go (list-runs 0 1 none (omega arith) (omega arith) (λ e. omega arith) unlimited n 1 gs emptyTally u
     (start-sixteen d) (start-empty d))
   where
-    go : {x : PerformResult d} → CallsRun unlimited (HoldsList 0 (appliedList gs (unitTensor d n)) 1 none) x
+    go : {x : PerformResult d} → AllCallsRun unlimited (HoldsList 0 (appliedList gs (unitTensor d n)) 1 none) x
         → registerTensor 0 x ≡ some (appliedList gs (unitTensor d n))
     go (full l) = absurd l
     go (end h) = h .here
@@ -51,7 +51,7 @@ list-tensor d n gs u =
 -- In the session that two lists stand for no call is refused except as 8, and none at unlimited capacity; and registers
 -- 0 and 1 end with the lists' tensors.
 pub session-runs : {d : ℕ} (c : Capacity) (n : ℕ) (gs hs : List Gate) → AllFit d gs → AllFit d hs
-    → CallsRun c (HoldsBoth (appliedList gs (unitTensor d n)) (appliedList hs (unitTensor d n)))
+    → AllCallsRun c (HoldsBoth (appliedList gs (unitTensor d n)) (appliedList hs (unitTensor d n)))
     (perform c (sessionCalls n gs hs) emptyTally)
 unfolding sessionCalls
 session-runs {d} c n gs hs u v =
@@ -108,7 +108,8 @@ good-lists text {n} {gs} {hs} e = by-lines (lines text) e
         record { most-qubits = omega arith; first = rw (same, firsts) at (h .1); second = rw (same, seconds) at (h .2) }
     by-reading m (fault f line) l h q = absurd (let z : _≡_ {A = ℕ} 0 1 = cc in omega arith)
 
-    by-header : (h : Header) → RangedHeader h → (ls : List Bytes) → afterHeader h ls ≡ lists n gs hs → GoodLists n gs hs
+    by-header : (h : Header) → HeaderInRange h → (ls : List Bytes) → afterHeader h ls ≡ lists n gs hs → GoodLists n gs
+        hs
     by-header Bad l ls q = absurd (let z : _≡_ {A = ℕ} 0 1 = unfold afterHeader in cc in omega arith)
     by-header (Of m) l ls q = by-reading m (firstList m 2 ls) l (first-good m 2 ls) (unfold afterHeader in q)
 
@@ -117,14 +118,15 @@ good-lists text {n} {gs} {hs} e = by-lines (lines text) e
     by-lines (line ∷ ls) q =
         by-header (headerOf line) (header-read {line = line} refl .ranged) ls (unfold readLines in q)
 
-ruling-both : {d : ℕ} (c : Capacity) (T U : Tensor d) {x : PerformResult d} → CallsRun c (HoldsBoth T U) x
-    → Judged c T U (rulingAtEnd c x)
+ruling-both : {d : ℕ} (c : Capacity) (T U : Tensor d) {x : PerformResult d} → AllCallsRun c (HoldsBoth T U) x
+    → GoodTextRuling c T U (rulingAtEnd c x)
 unfolding rulingAtEnd answer withRegister withTensor
 ruling-both c T U (full {line = line} l) = was-full line l
 ruling-both c T U (end {t = t} b) = rw (b .first, b .second) was-compared
 
 pub ruling-judged : (c : Capacity) (text : Bytes) {n : ℕ} {gs hs : List Gate} → readText text ≡ lists n gs hs
-    → Judged c (appliedList gs (unitTensor indices n)) (appliedList hs (unitTensor indices n)) (rulingOn indices c text)
+    → GoodTextRuling c (appliedList gs (unitTensor indices n)) (appliedList hs (unitTensor indices n))
+    (rulingOn indices c text)
 unfolding rulingOn rulingOfReading
 ruling-judged c text {n} {gs} {hs} e =
     let g = good-lists text e in

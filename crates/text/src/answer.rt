@@ -9,7 +9,7 @@ ghost use lib.ListN.{length};
 ghost use Rattle.text.specs.Limits.{answerRoom, lastWeight};
 ghost use Rattle.text.specs.Call.{refusalNumber};
 ghost use Rattle.text.specs.Answer.{printed, SmallAnswer, AnswerWritten, labelledLine};
-ghost use Rattle.text.specs.Print.{Wrote};
+ghost use Rattle.text.specs.Print.{WriteEnsures};
 
 pub enum Answer {
     Ok(NodeCount),
@@ -21,7 +21,7 @@ pub enum Answer {
 }
 
 // Document 01's number of a refusal.
-pub fn number_of(r: Refusal) -> usize
+pub fn refusal_number(r: Refusal) -> usize
     ensures { λ n. ⌜ (n ≡ refusalNumber r) × (n ≤ lastWeight) ⌝ }
 {
     match r {
@@ -39,23 +39,23 @@ pub fn number_of(r: Refusal) -> usize
 // Puts a word with its tab, and a number, as a line; the answer is the place after it.
 fn pair(out: &mut [u8], at: usize, word: &[u8], n: usize) -> usize
     requires { ⌜ (at + answerRoom ≤ length (now out)) × ((length (now word) < 10) × (n ≤ lastWeight)) ⌝ }
-    ensures { λ r. ⌜ Wrote (now (out .entry)) at (labelledLine (now (word .entry)) n) (now (out .exit)) r ⌝ }
+    ensures { λ r. ⌜ WriteEnsures (now (out .entry)) at (labelledLine (now (word .entry)) n) (now (out .exit)) r ⌝ }
 {
     let e = print::labelled(out, at, word, n);
-    print::bytes(out, e, b"\n")
+    print::put_bytes(out, e, b"\n")
 }
 
 fn put(out: &mut [u8], at: usize, answer: Answer) -> usize
     requires { ⌜ (at + answerRoom ≤ length (now out)) × SmallAnswer answer ⌝ }
-    ensures { λ r. ⌜ Wrote (now (out .entry)) at (printed answer) (now (out .exit)) r ⌝ }
+    ensures { λ r. ⌜ WriteEnsures (now (out .entry)) at (printed answer) (now (out .exit)) r ⌝ }
 {
     match answer {
         Answer::Ok(n) => pair(out, at, b"ok\t", n),
-        Answer::No(r) => pair(out, at, b"no\t", number_of(r)),
+        Answer::No(r) => pair(out, at, b"no\t", refusal_number(r)),
         Answer::Value(w) => pair(out, at, b"v\t", w),
-        Answer::Same => print::bytes(out, at, b"same\n"),
+        Answer::Same => print::put_bytes(out, at, b"same\n"),
         Answer::Factor(f) => pair(out, at, b"factor\t", f),
-        Answer::Differ => print::bytes(out, at, b"differ\n"),
+        Answer::Differ => print::put_bytes(out, at, b"differ\n"),
     }
 }
 

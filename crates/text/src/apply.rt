@@ -1,12 +1,12 @@
 // A gate applied to a list's tensor, as one step (document 01, "Verdicts"): the gate's tensor, the contraction over the
 // middles of its qubits, and their fresh indices renamed. No register is set between, and nothing depends on the
 // middles then, so 7 is not looked for.
-use crate::limits::QubitNumber;
 use crate::qubits;
 use crate::qubits::Qubits;
 use diagram::build;
 use diagram::contract;
 use diagram::gate::Gate;
+use diagram::gate::Qubit;
 use diagram::join::Outcome;
 use diagram::lower;
 use diagram::make::State;
@@ -15,15 +15,15 @@ ghost use Prim.Native.Nat.{_+_, _*_, _<_};
 ghost use Rattle.diagram.specs.Tensor.{indices};
 ghost use Rattle.diagram.specs.Tally.{low};
 ghost use Rattle.diagram.specs.Top.{Free};
-ghost use Rattle.diagram.specs.Engine.{tensorOf};
+ghost use Rattle.diagram.specs.Store.{tensorOf};
 ghost use Rattle.diagram.specs.Operation.{OperationRequires, RefinesCached};
 ghost use Rattle.text.specs.Limits.{mostQubits};
 ghost use Rattle.text.specs.Names.{Placed};
-ghost use Rattle.text.specs.Qubits.{qubitList, RangedQubits, Rising};
+ghost use Rattle.text.specs.Qubits.{qubitList, AllBelowEight, Rising};
 ghost use Rattle.text.specs.Apply.{Renamable, renameStep, contractStep, applyStep};
 
 // The fresh index of q becomes its middle.
-fn rename(store: &mut [u8], cache: &mut [u64], s: State, a: Edge, q: QubitNumber) -> Outcome
+fn rename(store: &mut [u8], cache: &mut [u64], s: State, a: Edge, q: Qubit) -> Outcome
     requires { ⌜ OperationRequires (now cache) (now store) s a a ×
         ((q < mostQubits) × Free (3 * q + 1) (tensorOf (now store) s a)) ⌝ }
     ensures { λ r. ⌜ RefinesCached (now (cache .exit)) (now (store .entry)) (now (store .exit)) s
@@ -35,7 +35,7 @@ fn rename(store: &mut [u8], cache: &mut [u64], s: State, a: Edge, q: QubitNumber
 // "`low` of their fresh indices in rising order"
 fn rename_all(store: &mut [u8], cache: &mut [u64], s: State, a: Edge, qubits: Qubits) -> Outcome
     requires { ⌜ OperationRequires (now cache) (now store) s a a ×
-        (RangedQubits qubits × Renamable (qubitList qubits) (tensorOf (now store) s a)) ⌝ }
+        (AllBelowEight qubits × Renamable (qubitList qubits) (tensorOf (now store) s a)) ⌝ }
     ensures { λ r. ⌜ RefinesCached (now (cache .exit)) (now (store .entry)) (now (store .exit)) s
         (renameStep (qubitList qubits) (tensorOf (now (store .entry)) s a)) r ⌝ }
 {
@@ -60,7 +60,7 @@ fn contract_rename(
     qubits: Qubits,
 ) -> Outcome
     requires { ⌜ OperationRequires (now cache) (now store) s a x
-        × (RangedQubits qubits × Rising indices 0 (qubitList qubits)) ⌝ }
+        × (AllBelowEight qubits × Rising indices 0 (qubitList qubits)) ⌝ }
     ensures { λ r. ⌜ RefinesCached (now (cache .exit)) (now (store .entry)) (now (store .exit)) s
         (contractStep (qubitList qubits) (tensorOf (now (store .entry)) s x) (tensorOf (now (store .entry)) s a)) r ⌝ }
 {

@@ -1,7 +1,6 @@
 // Calls: the words and numbers of a line, checked field by field from the left.
 use crate::args::Args;
 use crate::limits::Assignment;
-use crate::limits::Index;
 use crate::limits::LAST_INDEX;
 use crate::limits::LAST_MASK;
 use crate::limits::LAST_REGISTER;
@@ -9,10 +8,11 @@ use crate::limits::LAST_WEIGHT;
 use crate::limits::MOST_QUBITS;
 use crate::limits::Mask;
 use crate::limits::QubitCount;
-use crate::limits::RegisterNumber;
 use crate::limits::Weight;
 use crate::words::Word;
 use diagram::gate::Gate;
+use diagram::node::Index;
+use diagram::registers::RegisterNumber;
 ghost use mathlib.Core.Path.{_≡_};
 ghost use Rattle.text.specs.Call.{checkRange, checkRegister, callOf};
 

@@ -5,11 +5,11 @@ use crate::limits::LineNumber;
 use crate::limits::MOST_DIGITS;
 use crate::limits::MOST_QUBITS;
 use crate::limits::QubitCount;
-use crate::limits::QubitNumber;
 use crate::names;
-use crate::names::Named;
+use crate::names::NameResult;
 use crate::split;
 use diagram::gate::Gate;
+use diagram::gate::Qubit;
 ghost use mathlib.Core.Path.{_≡_};
 ghost use Prim.Native.Nat.{_+_, _≤_};
 ghost use lib.ListN.{length, drop};
@@ -47,7 +47,7 @@ pub enum Next {
 }
 
 // A text without a fault: its n, the line of `=` and the number of lines. Or its first fault and the line of that.
-pub enum Checked {
+pub enum CheckResult {
     Good(QubitCount, LineNumber, LineNumber),
     Faulty(Fault, LineNumber),
 }
@@ -58,21 +58,21 @@ fn ensure(test: bool, fault: Fault, item: Item) -> Item
     if test { item } else { Item::Faulty(fault) }
 }
 
-fn one_qubit_item(n: QubitCount, q: QubitNumber, name: Named) -> Item
+fn one_qubit_item(n: QubitCount, q: Qubit, name: NameResult) -> Item
     ensures { λ r. ⌜ r ≡ oneQubitItem n q name ⌝ }
 {
     match name {
-        Named::Unknown => Item::Faulty(Fault::Line),
-        Named::Gate(g) => ensure(q < n, Fault::Qubit, Item::Gate(g)),
+        NameResult::Unknown => Item::Faulty(Fault::Line),
+        NameResult::Gate(g) => ensure(q < n, Fault::Qubit, Item::Gate(g)),
     }
 }
 
-fn two_qubit_item(n: QubitCount, p: QubitNumber, q: QubitNumber, name: Named) -> Item
+fn two_qubit_item(n: QubitCount, p: Qubit, q: Qubit, name: NameResult) -> Item
     ensures { λ r. ⌜ r ≡ twoQubitItem n p q name ⌝ }
 {
     match name {
-        Named::Unknown => Item::Faulty(Fault::Line),
-        Named::Gate(g) => {
+        NameResult::Unknown => Item::Faulty(Fault::Line),
+        NameResult::Gate(g) => {
             let apart = ensure(p != q, Fault::Equal, Item::Gate(g));
             ensure(p < n, Fault::Qubit, ensure(q < n, Fault::Qubit, apart))
         }
@@ -157,7 +157,7 @@ fn parting_after(item: Item, parting: LineNumber, line: LineNumber) -> Next
 }
 
 // The lines after the first, from `start` on. `count` lines have been read, and `parting` is the line of `=`, or 0.
-fn check_lines(text: &[u8], start: usize, n: QubitCount) -> Checked
+fn check_lines(text: &[u8], start: usize, n: QubitCount) -> CheckResult
     requires { ⌜ (1 ≤ start) × (start ≤ length (now text) + 1) ⌝ }
     ensures { λ r. ⌜ r ≡ checkLines n 0 1 (lines (drop start (now (text .entry)))) ⌝ }
 {
@@ -168,29 +168,29 @@ fn check_lines(text: &[u8], start: usize, n: QubitCount) -> Checked
         let e = split::end(text, a, b'\n');
         let line = count + 1;
         match parting_after(read(n, &text[a..e]), parting, line) {
-            Next::Stop(f) => return Checked::Faulty(f, line),
+            Next::Stop(f) => return CheckResult::Faulty(f, line),
             Next::On(p) => parting = p,
         }
         a = e + 1;
         count = line;
     }
     if parting == 0 {
-        return Checked::Faulty(Fault::Parting, count + 1);
+        return CheckResult::Faulty(Fault::Parting, count + 1);
     }
-    Checked::Good(n, parting, count)
+    CheckResult::Good(n, parting, count)
 }
 
 // Reads a whole text.
-pub fn check(text: &[u8]) -> Checked
+pub fn check(text: &[u8]) -> CheckResult
     ensures { λ r. ⌜ TextRead (now (text .entry)) r ⌝ }
 {
     if text.len() == 0 {
-        return Checked::Faulty(Fault::Header, 1);
+        return CheckResult::Faulty(Fault::Header, 1);
     }
     let a = 0;
     let e = split::end(text, a, b'\n');
     match read_header(&text[a..e]) {
-        Header::Bad => Checked::Faulty(Fault::Header, 1),
+        Header::Bad => CheckResult::Faulty(Fault::Header, 1),
         Header::Of(n) => check_lines(text, e + 1, n),
     }
 }

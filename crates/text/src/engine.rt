@@ -1,16 +1,16 @@
 // What a session holds between two lines, and how a call that sets a register ends.
 use crate::answer::Answer;
 use crate::call::Refusal;
-use crate::limits::RegisterNumber;
 use diagram::join::Outcome;
 use diagram::make::State;
 use diagram::registers;
+use diagram::registers::RegisterNumber;
 use diagram::registers::Registers;
 use diagram::restore;
 ghost use Prim.Native.Nat.{_<_};
 ghost use Rattle.diagram.specs.Restore.{RollbackRequires};
 ghost use Rattle.text.specs.Limits.{registerCount};
-ghost use Rattle.text.specs.Engine.{EngineStartEnsures, RefuseEnsures, RollBackEnsures};
+ghost use Rattle.text.specs.Engine.{EngineStartEnsures, RefuseEnsures, RefuseFullEnsures};
 ghost use Rattle.text.specs.Engine.{SettleRequires, SettleEnsures};
 
 // The nodes are in the store; this is the rest.
@@ -43,9 +43,9 @@ pub(crate) fn refuse(engine: Engine, why: Refusal) -> Reply
 }
 
 // 8: the nodes as before the call, and nothing that it remembered is used.
-fn roll_back(store: &mut [u8], cache: &mut [u64], engine: Engine) -> Reply
+fn refuse_full(store: &mut [u8], cache: &mut [u64], engine: Engine) -> Reply
     requires { ⌜ RollbackRequires (now cache) (now store) (engine .state) ⌝ }
-    ensures { λ r. ⌜ RollBackEnsures (now (cache .exit)) (now (store .entry)) (now (store .exit)) engine r ⌝ }
+    ensures { λ r. ⌜ RefuseFullEnsures (now (cache .exit)) (now (store .entry)) (now (store .exit)) engine r ⌝ }
 {
     let state = restore::rollback(store, cache, engine.state);
     let registers = engine.registers;
@@ -53,20 +53,20 @@ fn roll_back(store: &mut [u8], cache: &mut [u64], engine: Engine) -> Reply
     refuse(engine, Refusal::Full)
 }
 
-// "Register d is set last": to what the call's step made, or the step did not fit.
+// "Register d is set last": to the edge of the step's outcome; or the step did not fit.
 pub(crate) fn settle(
     store: &mut [u8],
     cache: &mut [u64],
     engine: Engine,
     d: RegisterNumber,
-    made: Outcome,
+    outcome: Outcome,
 ) -> Reply
-    requires { ⌜ SettleRequires (now cache) (now store) (engine .state) made × (d < registerCount) ⌝ }
+    requires { ⌜ SettleRequires (now cache) (now store) (engine .state) outcome × (d < registerCount) ⌝ }
     ensures { λ r. ⌜ SettleEnsures (now (cache .entry)) (now (store .entry)) (now (cache .exit)) (now (store .exit))
-        engine d made r ⌝ }
+        engine d outcome r ⌝ }
 {
-    let Outcome::Edge(e, state) = made else {
-        return roll_back(store, cache, engine);
+    let Outcome::Edge(e, state) = outcome else {
+        return refuse_full(store, cache, engine);
     };
     let registers = registers::put(engine.registers, d, e);
     let answer = Answer::Ok(state.count);

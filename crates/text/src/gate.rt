@@ -6,13 +6,13 @@ use crate::call::Call;
 use crate::call::Refusal;
 use crate::limits::LAST_QUBIT;
 use crate::limits::MOST_DIGITS;
-use crate::limits::QubitNumber;
-use crate::limits::RegisterNumber;
 use crate::names;
-use crate::names::Named;
+use crate::names::NameResult;
 use crate::number;
 use crate::number::Number;
 use crate::split;
+use diagram::gate::Qubit;
+use diagram::registers::RegisterNumber;
 ghost use mathlib.Core.Path.{_≡_};
 ghost use Prim.Native.Nat.{_≤_};
 ghost use lib.ListN.{length};
@@ -21,7 +21,7 @@ ghost use Rattle.text.specs.Gate.{oneQubitCall, twoQubitCall, gateCallOf
 ghost use Rattle.text.specs.Call.{checkApart};
 
 // The call, if the qubits differ.
-fn check_apart(p: QubitNumber, q: QubitNumber, call: Call) -> Call
+fn check_apart(p: Qubit, q: Qubit, call: Call) -> Call
     ensures { λ r. ⌜ r ≡ checkApart p q call ⌝ }
 {
     if p == q {
@@ -30,21 +30,21 @@ fn check_apart(p: QubitNumber, q: QubitNumber, call: Call) -> Call
     call
 }
 
-fn one_qubit_call(d: RegisterNumber, q: QubitNumber, name: Named) -> Call
+fn one_qubit_call(d: RegisterNumber, q: Qubit, name: NameResult) -> Call
     ensures { λ r. ⌜ r ≡ oneQubitCall d q name ⌝ }
 {
     match name {
-        Named::Unknown => Call::Refused(Refusal::Name),
-        Named::Gate(g) => call::check_range(q, 0, LAST_QUBIT, Call::Gate(d, g)),
+        NameResult::Unknown => Call::Refused(Refusal::Name),
+        NameResult::Gate(g) => call::check_range(q, 0, LAST_QUBIT, Call::Gate(d, g)),
     }
 }
 
-fn two_qubit_call(d: RegisterNumber, p: QubitNumber, q: QubitNumber, name: Named) -> Call
+fn two_qubit_call(d: RegisterNumber, p: Qubit, q: Qubit, name: NameResult) -> Call
     ensures { λ r. ⌜ r ≡ twoQubitCall d p q name ⌝ }
 {
     match name {
-        Named::Unknown => Call::Refused(Refusal::Name),
-        Named::Gate(g) => {
+        NameResult::Unknown => Call::Refused(Refusal::Name),
+        NameResult::Gate(g) => {
             let apart = check_apart(p, q, Call::Gate(d, g));
             call::check_range(p, 0, LAST_QUBIT, call::check_range(q, 0, LAST_QUBIT, apart))
         }

@@ -2,7 +2,7 @@
 // compared.
 use crate::answer::Answer;
 use crate::check;
-use crate::check::Checked;
+use crate::check::CheckResult;
 use crate::check::Fault;
 use crate::engine;
 use crate::engine::Engine;
@@ -22,7 +22,7 @@ ghost use Rattle.text.specs.Limits.{mostQubits};
 ghost use Rattle.text.specs.Check.{GoodText};
 ghost use Rattle.text.specs.List.{gateList, ListRequires};
 ghost use Rattle.text.specs.VerdictSession.{rulingOfAnswer};
-ghost use Rattle.text.specs.Judge.{CompareEnsures, SecondEnsures, JudgeEnsures, VerdictEnsures};
+ghost use Rattle.text.specs.Judge.{CompareListsEnsures, SecondEnsures, JudgeEnsures, VerdictEnsures};
 ghost use Rattle.text.specs.Engine.{EngineInvariant};
 
 fn ruling_of(answer: Answer) -> Ruling
@@ -39,9 +39,9 @@ fn ruling_of(answer: Answer) -> Ruling
 }
 
 // "then `cmp 0 1`"
-fn compare(engine: Engine) -> Ruling
+fn compare_lists(engine: Engine) -> Ruling
     requires { ⌜ RegistersValid (engine .state .count) (engine .registers .all) ⌝ }
-    ensures { λ r. ⌜ CompareEnsures engine r ⌝ }
+    ensures { λ r. ⌜ CompareListsEnsures engine r ⌝ }
 {
     let reply = respond::cmp(engine, 0, 1);
     let answer = reply.answer;
@@ -65,7 +65,7 @@ fn second(
     if last.refused {
         return Ruling::No(Fault::Full, last.line);
     }
-    compare(last.engine)
+    compare_lists(last.engine)
 }
 
 // Both lists of a good text, whose `=` is at the line `parting`, of `count` lines.
@@ -100,8 +100,8 @@ fn judge(text: &[u8], store: &mut [u8], cache: &mut [u64]) -> Ruling
     ensures { λ r. ⌜ JudgeEnsures (now (text .entry)) (now (store .entry)) r ⌝ }
 {
     match check::check(text) {
-        Checked::Faulty(f, line) => Ruling::No(f, line),
-        Checked::Good(n, parting, count) => run(text, store, cache, n, parting, count),
+        CheckResult::Faulty(f, line) => Ruling::No(f, line),
+        CheckResult::Good(n, parting, count) => run(text, store, cache, n, parting, count),
     }
 }
 

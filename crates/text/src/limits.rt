@@ -1,16 +1,13 @@
 // What the numbers of a line are, and how large document 01 lets them be.
-
-pub type RegisterNumber = usize;
-
-pub type QubitNumber = usize;
+use diagram::gate::Qubit;
+use diagram::node::Index;
+use diagram::registers::RegisterNumber;
 
 pub type QubitCount = usize;
 
 pub type Weight = usize;
 
 pub type Mask = usize;
-
-pub type Index = usize;
 
 pub type Assignment = usize;
 
@@ -27,7 +24,7 @@ pub const LAST_WEIGHT: Weight = 65536;
 // "n 1 to 8"
 pub const MOST_QUBITS: QubitCount = 8;
 
-pub const LAST_QUBIT: QubitNumber = 7;
+pub const LAST_QUBIT: Qubit = 7;
 
 // "bits of m, at most 16777215", "assignment v, at most 16777215"
 pub const LAST_MASK: Mask = 16777215;
@@ -43,3 +40,6 @@ pub const ANSWER_ROOM: usize = 16;
 
 // "Fewer than 32 output bytes returns 9"
 pub const VERDICT_ROOM: usize = 32;
+
+// What holds every line as `squeeze` leaves it.
+pub const LINE_ROOM: usize = 64;

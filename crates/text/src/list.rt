@@ -4,10 +4,10 @@ use crate::check;
 use crate::engine::Engine;
 use crate::limits::LineNumber;
 use crate::limits::QubitCount;
-use crate::limits::RegisterNumber;
 use crate::perform;
 use crate::perform::PerformState;
 use crate::split;
+use diagram::registers::RegisterNumber;
 ghost use mathlib.Core.Path.{_≡_};
 ghost use Prim.Native.Nat.{_+_, _≤_, _<_};
 ghost use Rattle.text.specs.Limits.{mostQubits};
@@ -15,7 +15,7 @@ ghost use Rattle.text.specs.List.{listStateOf, LineAhead, OpenEnsures, G
 ghost use Rattle.text.specs.List.{gateList, GatesEnsures, ListRequires, ListEnsures};
 ghost use Rattle.text.specs.Engine.{EngineInvariant};
 
-// Where a verdict's session stands: so many lines of the text were run, the last of them refused or not; the next
+// The state of a verdict's session: `line` lines of the text were run, the last of them refused or not; the next line
 // begins at `place`.
 pub struct ListState {
     pub refused: bool,

@@ -1,31 +1,31 @@
 // The gates' names.
-use crate::limits::QubitNumber;
 use crate::split;
 use diagram::gate::Gate;
+use diagram::gate::Qubit;
 ghost use mathlib.Core.Path.{_≡_};
 ghost use Rattle.text.specs.Names.{chooseName, oneQubit, twoQubits};
 
-pub enum Named {
+pub enum NameResult {
     Gate(Gate),
     Unknown,
 }
 
 // The gate `yes` where s is the name, else `no`.
-fn choose(s: &[u8], name: &[u8], yes: Gate, no: Named) -> Named
+fn choose(s: &[u8], name: &[u8], yes: Gate, no: NameResult) -> NameResult
     ensures { λ r. ⌜ r ≡ chooseName (now (s .entry)) (now (name .entry)) yes no ⌝ }
 {
     if split::same(s, name) {
-        Named::Gate(yes)
+        NameResult::Gate(yes)
     } else {
         no
     }
 }
 
 // The gate of this name on one qubit. It is looked for from the last to the first.
-pub(crate) fn one_qubit(s: &[u8], q: QubitNumber) -> Named
+pub(crate) fn one_qubit(s: &[u8], q: Qubit) -> NameResult
     ensures { λ r. ⌜ r ≡ oneQubit (now (s .entry)) q ⌝ }
 {
-    let g = Named::Unknown;
+    let g = NameResult::Unknown;
     let g = choose(s, b"TD", Gate::Td(q), g);
     let g = choose(s, b"T", Gate::T(q), g);
     let g = choose(s, b"SD", Gate::Sd(q), g);
@@ -38,10 +38,10 @@ pub(crate) fn one_qubit(s: &[u8], q: QubitNumber) -> Named
 }
 
 // The gate of this name on two qubits.
-pub(crate) fn two_qubits(s: &[u8], p: QubitNumber, q: QubitNumber) -> Named
+pub(crate) fn two_qubits(s: &[u8], p: Qubit, q: Qubit) -> NameResult
     ensures { λ r. ⌜ r ≡ twoQubits (now (s .entry)) p q ⌝ }
 {
-    let g = Named::Unknown;
+    let g = NameResult::Unknown;
     let g = choose(s, b"SW", Gate::Sw(p, q), g);
     let g = choose(s, b"CZ", Gate::Cz(p, q), g);
     let g = choose(s, b"CX", Gate::Cx(p, q), g);

@@ -16,7 +16,7 @@ fn wide(x: u8) -> usize
     x as usize
 }
 
-fn digits(s: &[u8]) -> Number
+fn read_digits(s: &[u8]) -> Number
     requires { ⌜ length (now s) ≤ mostDigits ⌝ }
     ensures { λ r. ⌜ r ≡ digitsFrom 0 (now (s .entry)) ⌝ }
 {
@@ -60,5 +60,5 @@ pub fn read(s: &[u8], most: usize) -> Number
     if needless(s) {
         return Number::Malformed;
     }
-    digits(s)
+    read_digits(s)
 }

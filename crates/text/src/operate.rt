@@ -4,10 +4,8 @@ use crate::call::Refusal;
 use crate::engine;
 use crate::engine::Engine;
 use crate::engine::Reply;
-use crate::limits::Index;
 use crate::limits::Mask;
 use crate::limits::QubitCount;
-use crate::limits::RegisterNumber;
 use crate::limits::Weight;
 use diagram::build;
 use diagram::contract;
@@ -16,6 +14,8 @@ use diagram::gate::Gate;
 use diagram::join::Outcome;
 use diagram::lower;
 use diagram::node::Edge;
+use diagram::node::Index;
+use diagram::registers::RegisterNumber;
 use diagram::sum;
 use diagram::unit;
 ghost use Prim.Native.Nat.{_≤_, _<_};
@@ -23,10 +23,10 @@ ghost use Rattle.diagram.specs.Tensor.{bits, masks};
 ghost use Rattle.diagram.specs.Tally.{sum as sums, cont as conts, low as lows};
 ghost use Rattle.diagram.specs.Lower.{LowerRequires};
 ghost use Rattle.diagram.specs.Meaning.{Valid};
-ghost use Rattle.diagram.specs.Engine.{tensorOf};
+ghost use Rattle.diagram.specs.Store.{tensorOf};
 ghost use Rattle.text.specs.Limits.{lastIndex, mostQubits, registerCount};
 ghost use Rattle.text.specs.Names.{Placed};
-ghost use Rattle.text.specs.Call.{Ranged};
+ghost use Rattle.text.specs.Call.{InRange};
 ghost use Rattle.text.specs.Engine.{EngineInvariant, SetsRegister};
 ghost use Rattle.text.specs.Apply.{applyStep};
 ghost use Rattle.text.specs.Respond.{RespondEnsures};
@@ -40,15 +40,15 @@ pub(crate) fn put(
     d: RegisterNumber,
     w: Weight,
 ) -> Reply
-    requires { ⌜ EngineInvariant (now cache) (now store) engine × Ranged (call.Put d w) ⌝ }
+    requires { ⌜ EngineInvariant (now cache) (now store) engine × InRange (call.Put d w) ⌝ }
     ensures { λ r. ⌜ RespondEnsures (now (cache .exit)) (now (store .entry)) (now (store .exit)) engine
         (call.Put d w) r ⌝ }
 {
     let state = engine.state;
     let weight = w as u64;
     let e = Edge { weight, node: 0 };
-    let made = Outcome::Edge(e, state);
-    engine::settle(store, cache, engine, d, made)
+    let outcome = Outcome::Edge(e, state);
+    engine::settle(store, cache, engine, d, outcome)
 }
 
 pub(crate) fn gate(
@@ -58,12 +58,12 @@ pub(crate) fn gate(
     d: RegisterNumber,
     g: Gate,
 ) -> Reply
-    requires { ⌜ EngineInvariant (now cache) (now store) engine × Ranged (call.Gate d g) ⌝ }
+    requires { ⌜ EngineInvariant (now cache) (now store) engine × InRange (call.Gate d g) ⌝ }
     ensures { λ r. ⌜ RespondEnsures (now (cache .exit)) (now (store .entry)) (now (store .exit)) engine
         (call.Gate d g) r ⌝ }
 {
-    let made = build::gate(store, engine.state, g);
-    engine::settle(store, cache, engine, d, made)
+    let outcome = build::gate(store, engine.state, g);
+    engine::settle(store, cache, engine, d, outcome)
 }
 
 pub(crate) fn unit(
@@ -73,12 +73,12 @@ pub(crate) fn unit(
     d: RegisterNumber,
     n: QubitCount,
 ) -> Reply
-    requires { ⌜ EngineInvariant (now cache) (now store) engine × Ranged (call.Unit d n) ⌝ }
+    requires { ⌜ EngineInvariant (now cache) (now store) engine × InRange (call.Unit d n) ⌝ }
     ensures { λ r. ⌜ RespondEnsures (now (cache .exit)) (now (store .entry)) (now (store .exit)) engine
         (call.Unit d n) r ⌝ }
 {
-    let made = unit::unit(store, engine.state, n);
-    engine::settle(store, cache, engine, d, made)
+    let outcome = unit::unit(store, engine.state, n);
+    engine::settle(store, cache, engine, d, outcome)
 }
 
 pub(crate) fn add(
@@ -94,8 +94,8 @@ pub(crate) fn add(
     ensures { λ r. ⌜ SetsRegister (now (cache .exit)) (now (store .entry)) (now (store .exit)) engine d
         (sums (tensorOf (now (store .entry)) (engine .state) a) (tensorOf (now (store .entry)) (engine .state) b)) r ⌝ }
 {
-    let made = sum::sum(store, cache, engine.state, a, b);
-    engine::settle(store, cache, engine, d, made)
+    let outcome = sum::sum(store, cache, engine.state, a, b);
+    engine::settle(store, cache, engine, d, outcome)
 }
 
 pub(crate) fn cont(
@@ -115,8 +115,8 @@ pub(crate) fn cont(
         (bits m)) r ⌝ }
 {
     let mask = m as u64;
-    let made = contract::contract(store, cache, engine.state, a, b, mask);
-    engine::settle(store, cache, engine, d, made)
+    let outcome = contract::contract(store, cache, engine.state, a, b, mask);
+    engine::settle(store, cache, engine, d, outcome)
 }
 
 // Index k is renamed k - 1.
@@ -133,8 +133,8 @@ fn lower(
     ensures { λ r. ⌜ SetsRegister (now (cache .exit)) (now (store .entry)) (now (store .exit)) engine d
         (lows k (tensorOf (now (store .entry)) (engine .state) a)) r ⌝ }
 {
-    let made = lower::lower(store, cache, engine.state, a, k);
-    engine::settle(store, cache, engine, d, made)
+    let outcome = lower::lower(store, cache, engine.state, a, k);
+    engine::settle(store, cache, engine, d, outcome)
 }
 
 // Index k is renamed k - 1.
@@ -171,6 +171,6 @@ pub(crate) fn apply(
     ensures { λ r. ⌜ SetsRegister (now (cache .exit)) (now (store .entry)) (now (store .exit)) engine d
         (applyStep g (tensorOf (now (store .entry)) (engine .state) a)) r ⌝ }
 {
-    let made = apply::apply(store, cache, engine.state, a, g);
-    engine::settle(store, cache, engine, d, made)
+    let outcome = apply::apply(store, cache, engine.state, a, g);
+    engine::settle(store, cache, engine, d, outcome)
 }

@@ -3,19 +3,19 @@ use crate::answer::Answer;
 use crate::call::Call;
 use crate::engine::Engine;
 use crate::engine::Reply;
-use crate::limits::RegisterNumber;
 use crate::operate;
 use crate::respond;
 use diagram::collect;
 use diagram::gate::Gate;
 use diagram::registers;
-use diagram::registers::Held;
+use diagram::registers::RegisterContent;
+use diagram::registers::RegisterNumber;
 ghost use mathlib.Core.Path.{_≡_};
 ghost use mathlib.Core.List.{[], _∷_};
 ghost use Prim.Native.Nat.{_<_};
 ghost use Rattle.text.specs.Limits.{mostQubits};
 ghost use Rattle.text.specs.Names.{Placed};
-ghost use Rattle.text.specs.Call.{Ranged};
+ghost use Rattle.text.specs.Call.{InRange};
 ghost use Rattle.text.specs.VerdictSession.{gateCalls};
 ghost use Rattle.text.specs.Answer.{isNo};
 ghost use Rattle.text.specs.Perform.{PerformsCalls, DropCollectEnsures, FinishEnsures};
@@ -47,7 +47,7 @@ pub(crate) fn call(
     run: PerformState,
     call: Call,
 ) -> PerformState
-    requires { ⌜ EngineInvariant (now cache) (now store) (run .engine) × Ranged call ⌝ }
+    requires { ⌜ EngineInvariant (now cache) (now store) (run .engine) × InRange call ⌝ }
     ensures { λ r. ⌜ PerformsCalls (now (store .entry)) (now (cache .exit)) (now (store .exit)) run (call ∷ []) r ⌝ }
 {
     if run.refused {
@@ -103,7 +103,7 @@ pub(crate) fn gate(
         return run;
     }
     let engine = run.engine;
-    let Held::Edge(x) = registers::get(engine.registers, r) else {
+    let RegisterContent::Edge(x) = registers::get(engine.registers, r) else {
         let refused = true;
         return PerformState { refused, engine };
     };

@@ -1,4 +1,4 @@
-// Where a session stands, line after line (document 01, "Session calls").
+// The run of a session, line after line (document 01, "Session calls").
 use crate::answer;
 use crate::engine::Engine;
 use crate::limits::ANSWER_ROOM;
@@ -11,12 +11,12 @@ ghost use mathlib.Core.Path.{_≡_};
 ghost use Prim.Native.Nat.{_+_, _≤_, _<_};
 ghost use lib.ListN.{length};
 ghost use Rattle.text.specs.Limits.{answerRoom};
-ghost use Rattle.text.specs.Progress.{AnswerLineEnsures, TurnRequires, TurnEnsures, ResumeEnsures};
+ghost use Rattle.text.specs.Progress.{AnswerLineEnsures, ResumeLineRequires, ResumeLineEnsures, ResumeEnsures};
 ghost use Rattle.text.specs.Progress.{stoppedProgress, resultOf};
 ghost use Rattle.text.specs.Engine.{EngineInvariant};
 
 // "The result gives the code (0 or 9), lines answered, bytes written, the node count and the sixteen registers."
-pub struct Session {
+pub struct SessionResult {
     pub code: usize,
     pub lines: usize,
     pub bytes: usize,
@@ -24,7 +24,7 @@ pub struct Session {
     pub registers: Registers,
 }
 
-// Where a run stands; the text is read up to `place`.
+// The state of a run; the text is read up to `place`.
 pub struct Progress {
     pub code: usize,
     pub lines: usize,
@@ -63,9 +63,15 @@ fn answer_line(
 }
 
 // The next line of the text.
-fn turn(text: &[u8], store: &mut [u8], cache: &mut [u64], out: &mut [u8], p: Progress) -> Progress
-    requires { ⌜ EngineInvariant (now cache) (now store) (p .engine) × TurnRequires (now text) (now out) p ⌝ }
-    ensures { λ r. ⌜ TurnEnsures (now (text .entry)) (now (store .entry)) (now (cache .exit)) (now (store .exit))
+fn resume_line(
+    text: &[u8],
+    store: &mut [u8],
+    cache: &mut [u64],
+    out: &mut [u8],
+    p: Progress,
+) -> Progress
+    requires { ⌜ EngineInvariant (now cache) (now store) (p .engine) × ResumeLineRequires (now text) (now out) p ⌝ }
+    ensures { λ r. ⌜ ResumeLineEnsures (now (text .entry)) (now (store .entry)) (now (cache .exit)) (now (store .exit))
         (now (out .entry)) (now (out .exit)) p r ⌝ }
 {
     let place = p.place;
@@ -117,12 +123,12 @@ pub fn resume(
         if out.len() - p.bytes < ANSWER_ROOM {
             return stop(p);
         }
-        p = turn(text, store, cache, out, p);
+        p = resume_line(text, store, cache, out, p);
     }
     p
 }
 
-pub(crate) fn result(p: Progress) -> Session
+pub(crate) fn result(p: Progress) -> SessionResult
     ensures { λ r. ⌜ r ≡ resultOf p ⌝ }
 {
     let code = p.code;
@@ -130,7 +136,7 @@ pub(crate) fn result(p: Progress) -> Session
     let bytes = p.bytes;
     let count = p.engine.state.count;
     let registers = p.engine.registers;
-    Session {
+    SessionResult {
         code,
         lines,
         bytes,

@@ -1,19 +1,19 @@
 // A gate's qubits in rising order, and the mask of their middles.
 use crate::limits::Mask;
-use crate::limits::QubitNumber;
 use diagram::gate;
 use diagram::gate::Gate;
+use diagram::gate::Qubit;
 use diagram::gate::Shape;
 ghost use mathlib.Core.Path.{_≡_};
 ghost use Prim.Native.Nat.{_+_, _*_, _^_, _<_};
 ghost use Rattle.diagram.specs.Tensor.{masks};
 ghost use Rattle.text.specs.Limits.{mostQubits};
 ghost use Rattle.text.specs.Names.{Placed};
-ghost use Rattle.text.specs.Qubits.{qubitList, RangedQubits, QubitsOf, middles as middlesOf};
+ghost use Rattle.text.specs.Qubits.{qubitList, AllBelowEight, QubitsOf, middles as middlesOf};
 
 pub enum Qubits {
-    One(QubitNumber),
-    Two(QubitNumber, QubitNumber),
+    One(Qubit),
+    Two(Qubit, Qubit),
 }
 
 pub(crate) fn of(g: Gate) -> Qubits
@@ -32,7 +32,7 @@ pub(crate) fn of(g: Gate) -> Qubits
 }
 
 // 2 to the middle index of q.
-fn middle(q: QubitNumber) -> Mask
+fn middle(q: Qubit) -> Mask
     requires { ⌜ q < mostQubits ⌝ }
     ensures { λ r. ⌜ (r ≡ 2 ^ (3 * q + 1)) × (r < 8388608) ⌝ }
 {
@@ -42,7 +42,7 @@ fn middle(q: QubitNumber) -> Mask
 
 // "over the middles of its qubits"
 pub(crate) fn middles(qubits: Qubits) -> Mask
-    requires { ⌜ RangedQubits qubits ⌝ }
+    requires { ⌜ AllBelowEight qubits ⌝ }
     ensures { λ r. ⌜ (r ≡ middlesOf (qubitList qubits)) × (r < masks) ⌝ }
 {
     match qubits {

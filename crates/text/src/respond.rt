@@ -7,21 +7,21 @@ use crate::engine;
 use crate::engine::Engine;
 use crate::engine::Reply;
 use crate::limits::Assignment;
-use crate::limits::Index;
 use crate::limits::Mask;
-use crate::limits::RegisterNumber;
 use crate::operate;
 use diagram::collect;
 use diagram::compare;
 use diagram::compare::Comparison;
+use diagram::node::Index;
 use diagram::registers;
-use diagram::registers::Held;
+use diagram::registers::RegisterContent;
+use diagram::registers::RegisterNumber;
 use diagram::value;
 ghost use mathlib.Core.Path.{_≡_};
-ghost use Rattle.diagram.specs.Engine.{Sound};
+ghost use Rattle.diagram.specs.Store.{Sound};
 ghost use Rattle.diagram.specs.Registers.{RegistersValid};
 ghost use Rattle.text.specs.Session.{comparison};
-ghost use Rattle.text.specs.Call.{Ranged};
+ghost use Rattle.text.specs.Call.{InRange};
 ghost use Rattle.text.specs.Respond.{RespondEnsures, ReadEnsures, PureEnsures};
 ghost use Rattle.text.specs.Engine.{EngineInvariant};
 ghost use Rattle.text.specs.declared.call.Call.the-variants as call;
@@ -34,14 +34,14 @@ fn add(
     a: RegisterNumber,
     b: RegisterNumber,
 ) -> Reply
-    requires { ⌜ EngineInvariant (now cache) (now store) engine × Ranged (call.Add d a b) ⌝ }
+    requires { ⌜ EngineInvariant (now cache) (now store) engine × InRange (call.Add d a b) ⌝ }
     ensures { λ r. ⌜ RespondEnsures (now (cache .exit)) (now (store .entry)) (now (store .exit)) engine
         (call.Add d a b) r ⌝ }
 {
-    let Held::Edge(x) = registers::get(engine.registers, a) else {
+    let RegisterContent::Edge(x) = registers::get(engine.registers, a) else {
         return engine::refuse(engine, Refusal::Empty);
     };
-    let Held::Edge(y) = registers::get(engine.registers, b) else {
+    let RegisterContent::Edge(y) = registers::get(engine.registers, b) else {
         return engine::refuse(engine, Refusal::Empty);
     };
     operate::add(store, cache, engine, d, x, y)
@@ -56,14 +56,14 @@ fn cont(
     b: RegisterNumber,
     m: Mask,
 ) -> Reply
-    requires { ⌜ EngineInvariant (now cache) (now store) engine × Ranged (call.Cont d a b m) ⌝ }
+    requires { ⌜ EngineInvariant (now cache) (now store) engine × InRange (call.Cont d a b m) ⌝ }
     ensures { λ r. ⌜ RespondEnsures (now (cache .exit)) (now (store .entry)) (now (store .exit)) engine
         (call.Cont d a b m) r ⌝ }
 {
-    let Held::Edge(x) = registers::get(engine.registers, a) else {
+    let RegisterContent::Edge(x) = registers::get(engine.registers, a) else {
         return engine::refuse(engine, Refusal::Empty);
     };
-    let Held::Edge(y) = registers::get(engine.registers, b) else {
+    let RegisterContent::Edge(y) = registers::get(engine.registers, b) else {
         return engine::refuse(engine, Refusal::Empty);
     };
     operate::cont(store, cache, engine, d, x, y, m)
@@ -77,21 +77,21 @@ fn low(
     a: RegisterNumber,
     k: Index,
 ) -> Reply
-    requires { ⌜ EngineInvariant (now cache) (now store) engine × Ranged (call.Low d a k) ⌝ }
+    requires { ⌜ EngineInvariant (now cache) (now store) engine × InRange (call.Low d a k) ⌝ }
     ensures { λ r. ⌜ RespondEnsures (now (cache .exit)) (now (store .entry)) (now (store .exit)) engine
         (call.Low d a k) r ⌝ }
 {
-    let Held::Edge(x) = registers::get(engine.registers, a) else {
+    let RegisterContent::Edge(x) = registers::get(engine.registers, a) else {
         return engine::refuse(engine, Refusal::Empty);
     };
     operate::low(store, cache, engine, d, x, k)
 }
 
 fn drop(engine: Engine, a: RegisterNumber) -> Reply
-    requires { ⌜ Ranged (call.Drop a) ⌝ }
+    requires { ⌜ InRange (call.Drop a) ⌝ }
     ensures { λ r. ⌜ PureEnsures engine (call.Drop a) r ⌝ }
 {
-    let Held::Edge(_) = registers::get(engine.registers, a) else {
+    let RegisterContent::Edge(_) = registers::get(engine.registers, a) else {
         return engine::refuse(engine, Refusal::Empty);
     };
     let state = engine.state;
@@ -116,10 +116,10 @@ fn collect(store: &mut [u8], cache: &mut [u64], engine: Engine) -> Reply
 
 fn at(store: &[u8], engine: Engine, a: RegisterNumber, v: Assignment) -> Reply
     requires { ⌜ Sound (now store) (engine .state) ×
-        (RegistersValid (engine .state .count) (engine .registers .all) × Ranged (call.At a v)) ⌝ }
+        (RegistersValid (engine .state .count) (engine .registers .all) × InRange (call.At a v)) ⌝ }
     ensures { λ r. ⌜ ReadEnsures (now (store .entry)) engine (call.At a v) r ⌝ }
 {
-    let Held::Edge(x) = registers::get(engine.registers, a) else {
+    let RegisterContent::Edge(x) = registers::get(engine.registers, a) else {
         return engine::refuse(engine, Refusal::Empty);
     };
     let w = value::value(store, engine.state, x, v as u64);
@@ -138,13 +138,13 @@ fn comparison(c: Comparison) -> Answer
 }
 
 pub(crate) fn cmp(engine: Engine, a: RegisterNumber, b: RegisterNumber) -> Reply
-    requires { ⌜ RegistersValid (engine .state .count) (engine .registers .all) × Ranged (call.Cmp a b) ⌝ }
+    requires { ⌜ RegistersValid (engine .state .count) (engine .registers .all) × InRange (call.Cmp a b) ⌝ }
     ensures { λ r. ⌜ PureEnsures engine (call.Cmp a b) r ⌝ }
 {
-    let Held::Edge(x) = registers::get(engine.registers, a) else {
+    let RegisterContent::Edge(x) = registers::get(engine.registers, a) else {
         return engine::refuse(engine, Refusal::Empty);
     };
-    let Held::Edge(y) = registers::get(engine.registers, b) else {
+    let RegisterContent::Edge(y) = registers::get(engine.registers, b) else {
         return engine::refuse(engine, Refusal::Empty);
     };
     let answer = comparison(compare::compare(x, y));
@@ -152,7 +152,7 @@ pub(crate) fn cmp(engine: Engine, a: RegisterNumber, b: RegisterNumber) -> Reply
 }
 
 pub(crate) fn respond(store: &mut [u8], cache: &mut [u64], engine: Engine, call: Call) -> Reply
-    requires { ⌜ EngineInvariant (now cache) (now store) engine × Ranged call ⌝ }
+    requires { ⌜ EngineInvariant (now cache) (now store) engine × InRange call ⌝ }
     ensures { λ r. ⌜ RespondEnsures (now (cache .exit)) (now (store .entry)) (now (store .exit)) engine call r ⌝ }
 {
     match call {

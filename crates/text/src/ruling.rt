@@ -25,7 +25,7 @@ pub struct VerdictResult {
 }
 
 // Document 01's number of a fault.
-pub fn number_of(f: Fault) -> usize
+pub fn fault_number(f: Fault) -> usize
     ensures { λ n. ⌜ (n ≡ faultNumber f) × (n ≤ 14) ⌝ }
 {
     match f {
@@ -38,14 +38,14 @@ pub fn number_of(f: Fault) -> usize
     }
 }
 
-fn refuse(out: &mut [u8], fault: Fault, line: LineNumber) -> usize
+fn write_refusal(out: &mut [u8], fault: Fault, line: LineNumber) -> usize
     requires { ⌜ verdictRoom ≤ length (now out) ⌝ }
     ensures { λ r. ⌜ RulingWritten (now (out .entry)) (Ruling.No fault line) (now (out .exit)) r ⌝ }
 {
-    let n = number_of(fault);
+    let n = fault_number(fault);
     let a = print::labelled(out, 0, b"no\t", n);
     let b = print::labelled(out, a, b"\t", line);
-    print::bytes(out, b, b"\n")
+    print::put_bytes(out, b, b"\n")
 }
 
 // Writes a verdict's answer at the start of the output, and answers how many bytes it has.
@@ -57,6 +57,6 @@ pub(crate) fn write(out: &mut [u8], ruling: Ruling) -> usize
         Ruling::Same => answer::write(out, 0, Answer::Same),
         Ruling::Factor(f) => answer::write(out, 0, Answer::Factor(f)),
         Ruling::Differ => answer::write(out, 0, Answer::Differ),
-        Ruling::No(f, line) => refuse(out, f, line),
+        Ruling::No(f, line) => write_refusal(out, f, line),
     }
 }

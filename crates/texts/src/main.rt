@@ -2,7 +2,7 @@
 // `no`, a fault's number and its line. A byte 0 ends a text.
 use libc::STDIN_FILENO;
 use libc::STDOUT_FILENO;
-use text::check::Checked;
+use text::check::CheckResult;
 
 fn word(s: &[u8]) {
     io::write_all(STDOUT_FILENO, s);
@@ -13,17 +13,17 @@ fn number(n: usize) {
     io::print_decimal(STDOUT_FILENO, n as u64);
 }
 
-fn show(checked: Checked) {
+fn show(checked: CheckResult) {
     match checked {
-        Checked::Good(n, parting, count) => {
+        CheckResult::Good(n, parting, count) => {
             word(b"good");
             number(n);
             number(parting);
             number(count);
         }
-        Checked::Faulty(f, line) => {
+        CheckResult::Faulty(f, line) => {
             word(b"no");
-            number(text::ruling::number_of(f));
+            number(text::ruling::fault_number(f));
             number(line);
         }
     }

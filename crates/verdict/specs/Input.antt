@@ -22,16 +22,17 @@ pub record FeedEnsures (part text : Bytes) (len : ℕ) (text' : Bytes) (n : ℕ)
   pub on : (came : Bytes) → BufferHolds came text len → BufferHolds (came ++ part) text' n
 
 -- what a read says came was taken in
-pub record TakeEnsures (came : ReadResult) (part text : Bytes) (len : ℕ) (text' : Bytes) (r : AfterRead) : Type 0 where
-  pub next : r .next ≡ came .next
-  pub feeds : FeedEnsures (take (came .count) part) text len text' (r .len)
+pub record TakeEnsures (result : ReadResult) (part text : Bytes) (len : ℕ) (text' : Bytes) (r : AfterRead) : Type 0
+  where
+    pub next : r .next ≡ result .next
+    pub feeds : FeedEnsures (take (result .count) part) text len text' (r .len)
 
 -- a read, whatever it answered and put into its buffer
 pub record ReadEnsures (text : Bytes) (len : ℕ) (text' : Bytes) (r : AfterRead) : Type 0 where
-  pub came : ReadResult
+  pub result : ReadResult
   pub part : Bytes
-  pub possible : PossibleRead (length part) came
-  pub takes : TakeEnsures came part text len text' r
+  pub possible : PossibleRead (length part) result
+  pub takes : TakeEnsures result part text len text' r
 
 -- the buffer after a read, how many bytes have come, and what the read said of what comes next
 pub record Point : Type 0 where
@@ -44,7 +45,7 @@ startingPoint text = record { text = text; after = record { len = 0; next = More
 
 -- one read more: only after one that brought bytes
 pub record ReadStep (a b : Point) : Type 0 where
-  pub goes-on : a .after .next ≡ More
+  pub reads-more : a .after .next ≡ More
   pub read : ReadEnsures (a .text) (a .after .len) (b .text) (b .after)
 
 -- Read after read.

@@ -70,7 +70,7 @@ reads-start = none
 
 pub reads-step : {text₀ text text' : Bytes} {r r' : AfterRead} → Reads text₀ text r → r .next ≡ More
     → ReadEnsures text (r .len) text' r' → Reads text₀ text' r'
-reads-step p g w = more p (record { goes-on = g; read = w })
+reads-step p g w = more p (record { reads-more = g; read = w })
 
 -- what the buffer holds after any number of reads
 
@@ -81,7 +81,7 @@ input-start text =
 input-step : {text text' : Bytes} {len : ℕ} {r : AfterRead} → InputInvariant text len → ReadEnsures text len text' r
     → InputInvariant text' (r .len)
 input-step v w = record {
-  came = v .came ++ take (w .came .count) (w .part);
+  came = v .came ++ take (w .result .count) (w .part);
   holds = w .takes .feeds .on (v .came) (v .holds);
 }
 

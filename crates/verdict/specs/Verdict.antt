@@ -13,8 +13,8 @@ use Rattle.verdict.specs.declared.input.AfterRead.{AfterRead}
 use Rattle.verdict.specs.declared.outcome.Outcome.{Outcome}
 use Rattle.verdict.specs.declared.outcome.Outcome.the-variants.{Judged, ReadFailed}
 
--- Some bytes came, read after read, the buffer holds them all in order, and this is the answer to them; where the last
--- read has not said that the input has ended, nothing is answered.
+-- Some bytes came, read after read, the buffer holds as many of them as fit, in order, and this is the answer to them;
+-- where the last read has not said that the input has ended, nothing is answered.
 pub record RunEnsures (text text' : Bytes) (s : List ℕ) (o o' : Bytes) (r : Outcome) : Type 0 where
   pub last : AfterRead
   pub reads : Reads text text' last

@@ -36,12 +36,12 @@ fn feed(text: &mut [u8], len: usize, part: &[u8]) -> usize
 }
 
 // Takes in what came, which stands at the front of `part`, behind the `len` bytes that are there.
-fn take(text: &mut [u8], len: usize, came: ReadResult, part: &[u8]) -> AfterRead
-    requires { ⌜ Counts (came .count) (now part) ⌝ }
-    ensures { λ r. ⌜ TakeEnsures came (now (part .entry)) (now (text .entry)) len (now (text .exit)) r ⌝ }
+fn take(text: &mut [u8], len: usize, result: ReadResult, part: &[u8]) -> AfterRead
+    requires { ⌜ Counts (result .count) (now part) ⌝ }
+    ensures { λ r. ⌜ TakeEnsures result (now (part .entry)) (now (text .entry)) len (now (text .exit)) r ⌝ }
 {
-    let n = came.count;
-    let next = came.next;
+    let n = result.count;
+    let next = result.next;
     let len = feed(text, len, &part[..n]);
     AfterRead { len, next }
 }
@@ -50,8 +50,8 @@ fn read(text: &mut [u8], len: usize) -> AfterRead
     ensures { λ r. ⌜ ReadEnsures (now (text .entry)) len (now (text .exit)) r ⌝ }
 {
     let mut part = io::buffer();
-    let came = stdin::read(&mut part);
-    take(text, len, came, &part)
+    let result = stdin::read(&mut part);
+    take(text, len, result, &part)
 }
 
 // Reads to the input's end. A proved loop has to end, and nothing says that an input does. So it counts down from a

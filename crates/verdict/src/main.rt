@@ -8,6 +8,7 @@ mod outcome;
 use libc::STDERR_FILENO;
 use libc::STDOUT_FILENO;
 use outcome::Outcome;
+use text::limits::VERDICT_ROOM;
 ghost use mathlib.Core.Path.{_≡_};
 ghost use Prim.Native.Nat.{_≤_};
 ghost use lib.ListN.{length};
@@ -56,7 +57,7 @@ fn show(out: &[u8], outcome: Outcome)
 
 // The arrays as slices; their lengths are known here, and nothing has to count their elements.
 fn lend(text: &mut [u8; TEXT], store: &mut [u8; STORE], cache: &mut [u64; CACHE]) {
-    let mut out = [0u8; 32];
+    let mut out = [0u8; VERDICT_ROOM];
     let outcome = run(text, store, cache, &mut out);
     show(&out, outcome);
 }

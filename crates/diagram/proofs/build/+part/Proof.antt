@@ -9,8 +9,8 @@ use borrow.Fn.PlainCycle.{Measures, is, falls, and}
 use Rattle.diagram.proofs.build.part.Reads as part
 use Rattle.diagram.proofs.build.part.Kinds as part-kinds
 use Rattle.diagram.proofs.build.+part.Lts-part as part-lts
-use Rattle.diagram.proofs.build.high.Reads as high-reads
-use Rattle.diagram.proofs.build.next.Reads as next-reads
+use Rattle.diagram.proofs.build.with_bit.Reads as with-bit-reads
+use Rattle.diagram.proofs.build.next_used.Reads as next-used-reads
 use Rattle.diagram.proofs.entry.entry.Reads as entry-reads
 use Rattle.diagram.proofs.join.join.Reads as join-reads
 use Rattle.diagram.proofs.build.+part.{statement}
@@ -30,12 +30,12 @@ abbrev part-claims : ℕ → part-lts.Claims
 part-claims t = (
   entry-reads.Asked,
   entry-reads.Learnt,
-  next-reads.Asked,
-  next-reads.Learnt,
+  next-used-reads.Asked,
+  next-used-reads.Learnt,
   part-below t,
   part.Post,
-  high-reads.Asked,
-  high-reads.Learnt,
+  with-bit-reads.Asked,
+  with-bit-reads.Learnt,
   join-reads.Asked,
   join-reads.Learnt,
 )
@@ -55,11 +55,11 @@ part-part-requires-2 t c κs =
     let chosen = first .before .before .before .before .before .before in
     let start = chosen .before in
     let prefix = start .before .before .pre .1 .1 .1 in
-    let sound = gate-sound _ _ _ (start .if1 .left) prefix (chosen .next .ensures) _ _ _ _
+    let sound = gate-sound _ _ _ (start .if1 .left) prefix (chosen .next-used .ensures) _ _ _ _
     (first .before .before .before .before .part .ensures)
     (first .l .given .1) in
-    let high = bits-below-next (bits-below-high prefix (start .if1 .left) (c .before .high .ensures))
-    (chosen .next .ensures) in
+    let high = bits-below-next (bits-below-high prefix (start .if1 .left) (c .before .with-bit .ensures))
+    (chosen .next-used .ensures) in
     search (needs, sound, high)
 
 part-returns-3 : (t : ℕ) → part-lts.Need-returns-3 (part-claims t) (part-at t) part.Post
@@ -71,9 +71,10 @@ part-join-requires t c κs =
     let first = second .before .before .before .before .before .before .before .before in
     let chosen = first .before .before .before .before .before .before in
     let start = chosen .before in
-    let joins = gate-joins _ _ _ (start .if1 .left) (start .before .before .pre .1 .1 .1) (chosen .next .ensures) _ _ _
+    let joins = gate-joins _ _ _ (start .if1 .left) (start .before .before .pre .1 .1 .1) (chosen .next-used .ensures) _
+    _ _
     _ (first .before .before .before .before .part .ensures) (first .l .given .1)
-    (second .before .before .before .before .before .before .high .ensures)
+    (second .before .before .before .before .before .before .with-bit .ensures)
     _ _ (second .before .before .before .before .part2 .ensures) (second .h .given .1) in
     (joins .sound, joins .joinable)
 
@@ -83,9 +84,10 @@ part-returns-4 t c =
     let first = second .before .before .before .before .before .before .before .before in
     let chosen = first .before .before .before .before .before .before in
     let start = chosen .before in
-    let joins = gate-joins _ _ _ (start .if1 .left) (start .before .before .pre .1 .1 .1) (chosen .next .ensures) _ _ _
+    let joins = gate-joins _ _ _ (start .if1 .left) (start .before .before .pre .1 .1 .1) (chosen .next-used .ensures) _
+    _ _
     _ (first .before .before .before .before .part .ensures) (first .l .given .1)
-    (second .before .before .before .before .before .before .high .ensures)
+    (second .before .before .before .before .before .before .with-bit .ensures)
     _ _ (second .before .before .before .before .part2 .ensures) (second .h .given .1) in
     joins .does _ (c .before .before .join .result) (c .before .before .join .ensures)
 

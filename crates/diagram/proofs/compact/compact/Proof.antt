@@ -18,8 +18,8 @@ abbrev μ-loop : tie.MeasureT-loop
 loop-holds : tie.Need-loop-holds Inv-loop μ-loop
 loop-holds c = (compact-start _ _, refl)
 
-step-requires : tie.Need-step-requires Inv-loop μ-loop
-step-requires c κs =
+compact-step-requires : tie.Need-compact-step-requires Inv-loop μ-loop
+compact-step-requires c κs =
     let loop = c .before .before in let start = loop .before .before in
     let long : 16 * start .args .count ≤ length (loop .loop .s) = omega (arith, start .pre .0, loop .loop .inv .1) in (
       c .before .loop-test .taken,
@@ -44,8 +44,8 @@ loop-less c = omega arith
 loop-again : tie.Need-loop-again Inv-loop μ-loop
 loop-again c =
     let loop = c .before .before .before .before .before in let start = loop .before .before in (
-      c .before .before .step .ensures .on _ _ (start .pre .1 .1) (loop .loop .inv .0),
-      c .before .before .step .kept .0 ∙ loop .loop .inv .1,
+      c .before .before .compact-step .ensures .on _ _ (start .pre .1 .1) (loop .loop .inv .0),
+      c .before .before .compact-step .kept .0 ∙ loop .loop .inv .1,
     )
 
 same-length : tie.Need-same-length Inv-loop μ-loop
@@ -62,4 +62,4 @@ pub compact-spec : {M : Type 1} → statement M
 compact-spec =
     tie.close
     (tie.spec
-    Inv-loop μ-loop loop-holds step-requires add-m loop-less loop-again same-length returns)
+    Inv-loop μ-loop loop-holds compact-step-requires add-m loop-less loop-again same-length returns)

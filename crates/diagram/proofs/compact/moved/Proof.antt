@@ -1,5 +1,5 @@
 use borrow.Author.Tests.{eq-eqb, ne-eqb}
-use Rattle.diagram.specs.RenumberLaws.{renumber-filled, renumber-empty}
+use Rattle.diagram.specs.CompactRenumberLaws.{renumber-filled, renumber-empty}
 use Rattle.diagram.proofs.compact.moved.Statement.{statement}
 use Rattle.diagram.proofs.compact.moved.Tie as tie
 

@@ -5,7 +5,7 @@ use borrow.Author.Needs.{needs}
 use borrow.Author.Tests.{eq-eqb}
 use Rattle.diagram.specs.Compact.{forward, renumberFirst}
 use Rattle.diagram.specs.RegistersLaws.{register-valid}
-use Rattle.diagram.specs.RenumberLaws.{renumber-start, renumber-on, renumber-ahead, renumber-end}
+use Rattle.diagram.specs.CompactRenumberLaws.{renumber-start, renumber-on, renumber-ahead, renumber-end}
 use Rattle.diagram.specs.declared.registers.Register.{Register}
 use Rattle.diagram.proofs.compact.renumber.Statement.{statement}
 use Rattle.diagram.proofs.compact.renumber.Tie as tie

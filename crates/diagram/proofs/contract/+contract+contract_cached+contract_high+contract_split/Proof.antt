@@ -4,7 +4,7 @@ use Prim.Native.Nat.{_+_, _*_}
 use mathlib.Core.Logic.{inl, inr}
 use Rattle.diagram.specs.CacheLaws.{lookup-is}
 use Rattle.diagram.specs.OperationLaws.{cached-fits, cached-hit, cached-kept}
-use Rattle.diagram.specs.HalvesLaws.{inside, fixable-left, fixable-right, part-ready, part-less}
+use Rattle.diagram.specs.OperationHalvesLaws.{inside, fixable-left, fixable-right, part-ready, part-less}
 use Rattle.diagram.specs.Operation.{edgesMeasure}
 use Rattle.diagram.specs.ContractLaws.{contract-left, contract-right, constant-right, constant-left}
 use Rattle.diagram.specs.ContractLaws.{contract-reduced-measure, contract-reduced-ready, contract-reduced-some}
@@ -12,7 +12,7 @@ use Rattle.diagram.specs.ContractLaws.{contract-times}
 use Rattle.diagram.specs.ContractLaws.{contract-key-fits, contract-key-step, contract-known}
 use Rattle.diagram.specs.ContractLaws.{contract-low-full, contract-high-ready, contract-measure}
 use Rattle.diagram.specs.ContractLaws.{contract-low-refines}
-use Rattle.diagram.specs.ContractLaws.{contract-high-full, contract-meetable, contract-high-refines}
+use Rattle.diagram.specs.ContractLaws.{contract-high-full, contract-combine-requires, contract-high-refines}
 use Prim.Native.Nat.{ℕ, _<_}
 use borrow.Fn.Kinds.{In}
 use borrow.Fn.PlainCycle.{Measures, is, falls, and}
@@ -34,7 +34,7 @@ use Rattle.diagram.proofs.mask.from.Reads as from-reads
 use Rattle.diagram.proofs.operation.keep.Reads as keep-reads
 use Rattle.diagram.proofs.cache.lookup.Reads as lookup-reads
 use Rattle.diagram.proofs.operation.lowest.Reads as lowest-reads
-use Rattle.diagram.proofs.contract.meet.Reads as meet-reads
+use Rattle.diagram.proofs.contract.combine.Reads as combine-reads
 use Rattle.diagram.proofs.operation.times.Reads as times-reads
 use Rattle.diagram.proofs.mask.without.Reads as without-reads
 use Rattle.diagram.proofs.contract.+contract+contract_cached+contract_high+contract_split.{statement}
@@ -135,8 +135,8 @@ contract-high-claims t = (
   cofactor-reads.Learnt,
   contract-below t,
   contract.Post,
-  meet-reads.Asked,
-  meet-reads.Learnt,
+  combine-reads.Asked,
+  combine-reads.Learnt,
 )
 
 abbrev contract-split-claims : ℕ → contract-split-lts.Claims
@@ -327,15 +327,15 @@ contract-high-returns : (t : ℕ)
     → contract-high-lts.Need-returns (contract-high-claims t) (contract-high-at t) contract-high.Post
 contract-high-returns t c = search (needs, contract-high-full)
 
-contract-high-meet-requires : (t : ℕ)
-    → contract-high-lts.Need-meet-requires (contract-high-claims t) (contract-high-at t) contract-high.Post
-contract-high-meet-requires t c κs =
+contract-high-combine-requires : (t : ℕ)
+    → contract-high-lts.Need-combine-requires (contract-high-claims t) (contract-high-at t) contract-high.Post
+contract-high-combine-requires t c κs =
     let high = c .before .before .before .before .before .before .before .before .before in
     let second = high .before .before .before in
     let first = second .before .before in
     let without = first .before .before in
     let start = without .before .before .before in
-    contract-meetable (start .pre .1 .0) (without .without .ensures) (first .cofactor .ensures)
+    contract-combine-requires (start .pre .1 .0) (without .without .ensures) (first .cofactor .ensures)
     (second .cofactor2 .ensures) (high .contract .last .1 .0) (high .contract .last .0) (high .contract .result)
     (high .contract .ensures) (c .before .before .before .h .given .1)
 
@@ -358,8 +358,8 @@ contract-high-returns-2 t c =
     let start = without .before .before .before in
     contract-high-refines (start .pre .1 .0) (without .without .ensures) (first .cofactor .ensures)
     (second .cofactor2 .ensures) (high .contract .last .1 .0) (high .contract .last .0) (high .contract .result)
-    (high .contract .ensures) (meet .before .before .before .before .h .given .1) (meet .meet .last .1 .0)
-    (meet .meet .last .0) (meet .meet .result) (meet .meet .ensures)
+    (high .contract .ensures) (meet .before .before .before .before .h .given .1) (meet .combine .last .1 .0)
+    (meet .combine .last .0) (meet .combine .result) (meet .combine .ensures)
 
 contract-split-lowest-requires : (t : ℕ)
     → contract-split-lts.Need-lowest-requires (contract-split-claims t) (contract-split-at t) contract-split.Post
@@ -508,18 +508,10 @@ pub +contract+contract-cached+contract-high+contract-split-spec : {M : Type 1} �
     (contract-cached-returns-2 t))
     (λ t. contract-high-lts.spec (contract-high-claims t) (contract-high-at t)
     contract-high.Post
-    (contract-high-without-requires t)
-    (contract-high-cofactor-requires t)
-    (contract-high-cofactor-requires-2 t)
-    (contract-high-contract-requires t)
-    (contract-high-enum-known-h t)
-    (contract-high-enum-told t)
-    (contract-high-same-length t)
-    (contract-high-same-length-2 t)
-    (contract-high-returns t)
-    (contract-high-meet-requires t)
-    (contract-high-same-length-3 t)
-    (contract-high-same-length-4 t)
+    (contract-high-without-requires t) (contract-high-cofactor-requires t) (contract-high-cofactor-requires-2 t)
+    (contract-high-contract-requires t) (contract-high-enum-known-h t) (contract-high-enum-told t)
+    (contract-high-same-length t) (contract-high-same-length-2 t) (contract-high-returns t)
+    (contract-high-combine-requires t) (contract-high-same-length-3 t) (contract-high-same-length-4 t)
     (contract-high-returns-2 t))
     λ t. contract-split-lts.spec (contract-split-claims t) (contract-split-at t)
     contract-split.Post

@@ -1,4 +1,4 @@
--- Marks from low numbers up: a node's children are marked before it.
+-- Flags from low numbers up: a node's children are flagged before it.
 use borrow.Author.Needs.{needs}
 use Prim.Native.Nat.{_-_}
 use Rattle.diagram.specs.Depends.{DependsLoop}
@@ -15,8 +15,8 @@ abbrev μ-loop : tie.MeasureT-loop
 loop-holds : tie.Need-loop-holds Inv-loop μ-loop
 loop-holds c = depends-start _ _ _
 
-mark-node-requires : tie.Need-mark-node-requires Inv-loop μ-loop
-mark-node-requires c κs = search (needs, depends-parent)
+flag-node-requires : tie.Need-flag-node-requires Inv-loop μ-loop
+flag-node-requires c κs = search (needs, depends-parent)
 
 loop-again : tie.Need-loop-again Inv-loop μ-loop
 loop-again c = search (needs, depends-more)
@@ -28,5 +28,5 @@ pub depends-spec : {M : Type 1} → statement M
 depends-spec =
     tie.close
     (tie.spec
-    Inv-loop μ-loop loop-holds (λ c. search needs) mark-node-requires (λ c. search needs) (λ c. search needs) loop-again
+    Inv-loop μ-loop loop-holds (λ c. search needs) flag-node-requires (λ c. search needs) (λ c. search needs) loop-again
     (λ c κs. search needs) (λ c. search needs) returns)

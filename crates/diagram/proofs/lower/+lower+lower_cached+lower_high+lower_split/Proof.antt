@@ -3,7 +3,7 @@ use native.Mathlib.Omega.{arith}
 use Prim.Native.Nat.{_+_, _*_}
 use Rattle.diagram.specs.CacheLaws.{lookup-is}
 use Rattle.diagram.specs.OperationLaws.{cached-fits, cached-hit, cached-kept}
-use Rattle.diagram.specs.HalvesLaws.{fixable-left, part-ready, part-less}
+use Rattle.diagram.specs.OperationHalvesLaws.{fixable-left, part-ready, part-less}
 use Rattle.diagram.specs.Operation.{edgesMeasure}
 use Rattle.diagram.specs.LowerLaws.{lower-above, lower-reduced-measure, lower-reduced-ready, lower-reduced}
 use Rattle.diagram.specs.LowerLaws.{lower-times, lower-key-fits, lower-key-step, lower-known}

@@ -19,8 +19,8 @@ abbrev μ-loop : tie.MeasureT-loop
 loop-holds : tie.Need-loop-holds Inv-loop μ-loop
 loop-holds c = (spread-start _ _, omega arith, refl)
 
-look-requires : tie.Need-look-requires Inv-loop μ-loop
-look-requires c κs =
+mark-children-requires : tie.Need-mark-children-requires Inv-loop μ-loop
+mark-children-requires c κs =
     let loop = c .before .before in let start = loop .before .before in (
       omega (arith, start .pre .0, loop .loop .inv),
       (
@@ -39,9 +39,9 @@ loop-less c = omega arith
 loop-again : tie.Need-loop-again Inv-loop μ-loop
 loop-again c =
     let loop = c .before .before .before .before .before in let start = loop .before .before in (
-      c .before .before .look .ensures .on _ _ (start .pre .1) (loop .loop .inv .0),
+      c .before .before .mark-children .ensures .on _ _ (start .pre .1) (loop .loop .inv .0),
       omega arith,
-      c .before .before .look .kept .0 ∙ loop .loop .inv .2,
+      c .before .before .mark-children .kept .0 ∙ loop .loop .inv .2,
     )
 
 same-length : tie.Need-same-length Inv-loop μ-loop
@@ -57,4 +57,4 @@ pub spread-spec : {M : Type 1} → statement M
 spread-spec =
     tie.close
     (tie.spec
-    Inv-loop μ-loop loop-holds look-requires sub-n loop-less loop-again same-length returns)
+    Inv-loop μ-loop loop-holds mark-children-requires sub-n loop-less loop-again same-length returns)

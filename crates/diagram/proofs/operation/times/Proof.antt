@@ -9,7 +9,7 @@ returns c = search (needs, multiple-outcome-full)
 times-requires : tie.Need-times-requires
 times-requires c κs =
     let start = c .before .before .before in
-    (start .pre .0, outcome-fits-edge _ (start .pre .1) (c .before .made .given .1) .weight)
+    (start .pre .0, outcome-fits-edge _ (start .pre .1) (c .before .outcome .given .1) .weight)
 
 returns-2 : tie.Need-returns-2
 returns-2 c = search (needs, multiple-outcome-edge)

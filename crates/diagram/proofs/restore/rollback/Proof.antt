@@ -1,5 +1,5 @@
 -- The table is made anew for the old count, where the store holds a record at all.
-use Rattle.diagram.specs.Restore.{built, small}
+use Rattle.diagram.specs.Restore.{built, no-room}
 use Rattle.diagram.specs.RestoreLaws.{rollback-table, rollback-ensures}
 use borrow.Author.Needs.{needs}
 use Rattle.diagram.proofs.restore.rollback.Statement.{statement}
@@ -12,7 +12,7 @@ returns : tie.Need-returns
 returns c = search (needs, rollback-ensures, built)
 
 returns-2 : tie.Need-returns-2
-returns-2 c = search (needs, rollback-ensures, small)
+returns-2 c = search (needs, rollback-ensures, no-room)
 
 pub rollback-spec : {M : Type 1} → statement M
 rollback-spec =

@@ -1,4 +1,4 @@
-use Rattle.diagram.specs.Restore.{built, small}
+use Rattle.diagram.specs.Restore.{built, no-room}
 use Rattle.diagram.specs.RestoreLaws.{start-ensures}
 use borrow.Author.Needs.{needs}
 use Rattle.diagram.proofs.restore.start.Statement.{statement}
@@ -8,7 +8,7 @@ returns : tie.Need-returns
 returns c = search (needs, start-ensures, built)
 
 returns-2 : tie.Need-returns-2
-returns-2 c = search (needs, start-ensures, small)
+returns-2 c = search (needs, start-ensures, no-room)
 
 pub start-spec : {M : Type 1} → statement M
 start-spec =

@@ -3,7 +3,7 @@ use native.Mathlib.Omega.{arith}
 use Prim.Native.Nat.{_+_, _*_}
 use Rattle.diagram.specs.CacheLaws.{lookup-is}
 use Rattle.diagram.specs.OperationLaws.{cached-fits, cached-hit, cached-kept}
-use Rattle.diagram.specs.HalvesLaws.{inside, fixable-left, fixable-right, part-ready, part-less}
+use Rattle.diagram.specs.OperationHalvesLaws.{inside, fixable-left, fixable-right, part-ready, part-less}
 use Rattle.diagram.specs.Operation.{edgesMeasure}
 use Rattle.diagram.specs.SumLaws.{sum-left, sum-right, sum-one, sum-reduced-measure, sum-reduced-ready}
 use Rattle.diagram.specs.SumLaws.{sum-reduced, sum-times, sum-key-fits, sum-key-step, sum-known, sum-some}

@@ -1,6 +1,6 @@
 -- The walk down keeps the value at v; the level rises at each step.
 use Prim.Native.Nat.{_-_}
-use Rattle.diagram.specs.Engine.{levelOf}
+use Rattle.diagram.specs.Store.{levelOf}
 use Rattle.diagram.specs.Value.{ValueLoop}
 use Rattle.diagram.specs.ValueLaws.{value-start, value-index, value-fixable, value-on, value-less, value-end}
 use borrow.Author.Needs.{needs}

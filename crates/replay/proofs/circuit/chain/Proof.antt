@@ -17,8 +17,8 @@ abbrev μ-loop : tie.MeasureT-loop
 loop-holds : tie.Need-loop-holds Inv-loop μ-loop
 loop-holds c = (c .before .before .pre, omega arith, refl, refl)
 
-entangle-requires : tie.Need-entangle-requires Inv-loop μ-loop
-entangle-requires c κs = (c .before .before .before .loop .inv .0, omega arith)
+cx-to-next-requires : tie.Need-cx-to-next-requires Inv-loop μ-loop
+cx-to-next-requires c κs = (c .before .before .before .loop .inv .0, omega arith)
 
 add-q : tie.Need-add-q Inv-loop μ-loop
 add-q c = omega arith
@@ -30,7 +30,7 @@ loop-again : tie.Need-loop-again Inv-loop μ-loop
 loop-again c =
     let turn = c .before .before .before .before in
     let inv = turn .before .before .before .before .loop .inv in
-    (turn .entangle .ensures, omega arith, turn .entangle .kept .0 ∙ inv .2, turn .entangle .kept .1 .0 ∙ inv .3)
+    (turn .cx-to-next .ensures, omega arith, turn .cx-to-next .kept .0 ∙ inv .2, turn .cx-to-next .kept .1 .0 ∙ inv .3)
 
 same-length : tie.Need-same-length Inv-loop μ-loop
 same-length c = c .before .loop .inv .2
@@ -45,4 +45,4 @@ pub chain-spec : {M : Type 1} → statement M
 chain-spec =
     tie.close
     (tie.spec
-    Inv-loop μ-loop loop-holds entangle-requires add-q loop-less loop-again same-length same-length-2 returns)
+    Inv-loop μ-loop loop-holds cx-to-next-requires add-q loop-less loop-again same-length same-length-2 returns)

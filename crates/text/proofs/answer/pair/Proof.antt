@@ -9,8 +9,8 @@ labelled-requires c κs =
     let start = c .before .before .before in
     labelled-label (start .args .word .now) _ (start .pre .1 .0) (start .pre .1 .1) _ _ (start .pre .0)
 
-bytes-requires : tie.Need-bytes-requires
-bytes-requires c κs =
+put-bytes-requires : tie.Need-put-bytes-requires
+put-bytes-requires c κs =
     let first = c .before .before .before .before in
     let start = first .before .before .before .before in
     labelled-room (start .args .word .now) _ (start .pre .1 .0) (start .pre .1 .1) (start .pre .0)
@@ -21,7 +21,7 @@ returns c =
     let first = c .before .before .before .before .before .before .before in
     let start = first .before .before .before .before in
     labelled-wrote _ _ (start .pre .1 .0) (start .pre .1 .1) (start .pre .0) (first .labelled .ensures)
-    (c .before .before .bytes .ensures)
+    (c .before .before .put-bytes .ensures)
 
 pub pair-spec : {M : Type 1} → statement M
-pair-spec = tie.close (tie.spec labelled-requires (λ c. search needs) bytes-requires (λ c. search needs) returns)
+pair-spec = tie.close (tie.spec labelled-requires (λ c. search needs) put-bytes-requires (λ c. search needs) returns)

@@ -1,7 +1,7 @@
 -- Each arm prints what the definition prints in that case.
 use borrow.Author.Needs.{needs}
 use native.Mathlib.Omega.{arith}
-use Rattle.text.specs.Answer.{printed, answerLine, labelledLine}
+use Rattle.text.specs.Answer.{printed, lineOfFields, labelledLine}
 use Rattle.text.proofs.answer.put.Statement.{statement}
 use Rattle.text.proofs.answer.put.Tie as tie
 
@@ -21,33 +21,35 @@ pair-requires-4 c κs =
     (omega arith, (omega arith, rw told at (c .before .before .before .before .before .before .pre .1)))
 
 returns : tie.Need-returns
-unfolding printed answerLine labelledLine
+unfolding printed lineOfFields labelledLine
 returns c = rw (c .before .before .before .before .before .before .answer .given .1) (c .before .before .pair .ensures)
 
 returns-2 : tie.Need-returns-2
-unfolding printed answerLine labelledLine
+unfolding printed lineOfFields labelledLine
 returns-2 c =
     let number = c .before .before .before in
-    rw (number .before .before .before .before .answer2 .given .1, ← number .number-of .ensures .0)
+    rw (number .before .before .before .before .answer2 .given .1, ← number .refusal-number .ensures .0)
     (c .before .before .pair2 .ensures)
 
 returns-3 : tie.Need-returns-3
-unfolding printed answerLine labelledLine
+unfolding printed lineOfFields labelledLine
 returns-3 c = rw (c .before .before .before .before .before .before .answer3 .given .1)
     (c .before .before .pair3 .ensures)
 
 returns-4 : tie.Need-returns-4
-unfolding printed answerLine labelledLine
-returns-4 c = rw (c .before .before .before .before .before .enum-told .given .1) (c .before .before .bytes .ensures)
+unfolding printed lineOfFields labelledLine
+returns-4 c = rw (c .before .before .before .before .before .enum-told .given .1)
+    (c .before .before .put-bytes .ensures)
 
 returns-5 : tie.Need-returns-5
-unfolding printed answerLine labelledLine
+unfolding printed lineOfFields labelledLine
 returns-5 c = rw (c .before .before .before .before .before .before .answer4 .given .1)
     (c .before .before .pair4 .ensures)
 
 returns-6 : tie.Need-returns-6
-unfolding printed answerLine labelledLine
-returns-6 c = rw (c .before .before .before .before .before .enum-told2 .given .1) (c .before .before .bytes2 .ensures)
+unfolding printed lineOfFields labelledLine
+returns-6 c = rw (c .before .before .before .before .before .enum-told2 .given .1)
+    (c .before .before .put-bytes2 .ensures)
 
 pub put-spec : {M : Type 1} → statement M
 put-spec =

@@ -1,6 +1,6 @@
 use borrow.Author.Needs.{needs}
 use Rattle.text.specs.QubitsLaws.{placed-allowed}
-use Rattle.text.specs.ApplyLaws.{apply-rising, apply-full, apply-ready, apply-works}
+use Rattle.text.specs.ApplyLaws.{apply-rising, apply-full, apply-ready, apply-refines}
 use Rattle.text.proofs.apply.apply.Statement.{statement}
 use Rattle.text.proofs.apply.apply.Tie as tie
 
@@ -14,7 +14,7 @@ contract-rename-requires : tie.Need-contract-rename-requires
 contract-rename-requires c κs = (search (needs, apply-ready), (search needs, search (needs, apply-rising)))
 
 returns-2 : tie.Need-returns-2
-returns-2 c = search (needs, apply-works)
+returns-2 c = search (needs, apply-refines)
 
 pub apply-spec : {M : Type 1} → statement M
 apply-spec =

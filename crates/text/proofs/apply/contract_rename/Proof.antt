@@ -1,5 +1,5 @@
 use borrow.Author.Needs.{needs}
-use Rattle.text.specs.ApplyLaws.{contracted-full, contracted-ready, contracted-renamable, contracted-works}
+use Rattle.text.specs.ApplyLaws.{contracted-full, contracted-ready, contracted-renamable, contract-rename-refines}
 use Rattle.text.proofs.apply.contract_rename.Statement.{statement}
 use Rattle.text.proofs.apply.contract_rename.Tie as tie
 
@@ -10,7 +10,7 @@ rename-all-requires : tie.Need-rename-all-requires
 rename-all-requires c κs = (search (needs, contracted-ready), (search needs, search (needs, contracted-renamable)))
 
 returns-2 : tie.Need-returns-2
-returns-2 c = search (needs, contracted-works)
+returns-2 c = search (needs, contract-rename-refines)
 
 pub contract-rename-spec : {M : Type 1} → statement M
 contract-rename-spec =

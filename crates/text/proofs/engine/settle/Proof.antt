@@ -3,8 +3,8 @@ use Rattle.text.specs.EngineLaws.{settle-ensures-full, settle-ensures-ed
 use Rattle.text.proofs.engine.settle.Statement.{statement}
 use Rattle.text.proofs.engine.settle.Tie as tie
 
-roll-back-requires : tie.Need-roll-back-requires
-roll-back-requires c κs = search (needs, settle-requires-full)
+refuse-full-requires : tie.Need-refuse-full-requires
+refuse-full-requires c κs = search (needs, settle-requires-full)
 
 returns : tie.Need-returns
 returns c = search (needs, settle-ensures-full)
@@ -16,5 +16,5 @@ pub settle-spec : {M : Type 1} → statement M
 settle-spec =
     tie.close
     (tie.spec
-    (λ c. search needs) (λ c. search needs) roll-back-requires (λ c. search needs) (λ c. search needs) returns
+    (λ c. search needs) (λ c. search needs) refuse-full-requires (λ c. search needs) (λ c. search needs) returns
     (λ c κs. search needs) returns-2)

@@ -15,7 +15,7 @@ returns c =
     let run = c .before .before .before .before .before in
     let read = run .before .before .before in
     let end = read .before .before in
-    gate-ensures (end .before .before .before .before .before .before .pre .1 .0 .headed) (end .end .ensures)
+    gate-ensures (end .before .before .before .before .before .before .pre .1 .0 .ahead) (end .end .ensures)
     (c .state-of .ensures) (read .gate .ensures) (run .gate2 .ensures)
 
 pub gate-spec : {M : Type 1} → statement M

@@ -17,7 +17,7 @@ returns-3 c = number-needless _ _ (sym (c .before .needless .ensures) ∙ c .if3
 returns-4 : tie.Need-returns-4
 returns-4 c =
     let test = c .before .before in
-    c .digits .ensures
+    c .read-digits .ensures
     ∙ number-plain _ _ (test .before .before .if1 .left) (test .before .if2 .left)
     (sym (test .needless .ensures) ∙ c .before .if3 .left)
 

@@ -8,7 +8,7 @@ use Rattle.text.specs.PrintLaws.{digit-room, digit-put, digits-room, las
 use Rattle.text.proofs.print.number.Reads as number
 use Rattle.text.proofs.print.number.Kinds as number-kinds
 use Rattle.text.proofs.print.+number.Lts-number as number-lts
-use Rattle.text.proofs.print.digit.Reads as digit-reads
+use Rattle.text.proofs.print.digit_byte.Reads as digit-byte-reads
 use Rattle.text.proofs.print.+number.{statement}
 use Rattle.text.proofs.print.+number.Tie.{close}
 
@@ -22,10 +22,10 @@ abbrev number-below : ℕ → In 1 number-kinds.ps
 number-below t = and 1 number-kinds.ps (falls 1 number-kinds.ps _<_ μ-number t) number.Pre
 
 abbrev number-claims : ℕ → number-lts.Claims
-number-claims t = (digit-reads.Asked, digit-reads.Learnt, number-below t, number.Post)
+number-claims t = (digit-byte-reads.Asked, digit-byte-reads.Learnt, number-below t, number.Post)
 
-digit-requires : (t : ℕ) → number-lts.Need-digit-requires (number-claims t) (number-at t) number.Post
-digit-requires t c κs = omega arith
+digit-byte-requires : (t : ℕ) → number-lts.Need-digit-byte-requires (number-claims t) (number-at t) number.Post
+digit-byte-requires t c κs = omega arith
 
 slice-write-out : (t : ℕ) → number-lts.Need-slice-write-out (number-claims t) (number-at t) number.Post
 slice-write-out t c = digit-room _ _ _ (c .before .if1 .taken) (c .before .before .before .pre .1)
@@ -39,7 +39,7 @@ same-length : (t : ℕ) → number-lts.Need-same-length (number-claims t) (numbe
 same-length t c = simp length-set
 
 returns : (t : ℕ) → number-lts.Need-returns (number-claims t) (number-at t) number.Post
-returns t c = rw (c .digit .ensures) (digit-put _ _ _ (c .before .if1 .taken) (c .before .before .before .pre .1))
+returns t c = rw (c .digit-byte .ensures) (digit-put _ _ _ (c .before .if1 .taken) (c .before .before .before .pre .1))
 
 number-requires : (t : ℕ) → number-lts.Need-number-requires (number-claims t) (number-at t) number.Post
 number-requires t c κs =
@@ -48,8 +48,8 @@ number-requires t c κs =
       omega (arith, digits-room _ _ _ (c .before .if1 .left) (start .fits .n .fits) (start .pre .1)),
     )
 
-digit-requires-2 : (t : ℕ) → number-lts.Need-digit-requires-2 (number-claims t) (number-at t) number.Post
-digit-requires-2 t c κs = omega arith
+digit-byte-requires-2 : (t : ℕ) → number-lts.Need-digit-byte-requires-2 (number-claims t) (number-at t) number.Post
+digit-byte-requires-2 t c κs = omega arith
 
 slice-write-out-2 : (t : ℕ) → number-lts.Need-slice-write-out-2 (number-claims t) (number-at t) number.Post
 slice-write-out-2 t c =
@@ -78,20 +78,11 @@ returns-2 : (t : ℕ) → number-lts.Need-returns-2 (number-claims t) (number-at
 returns-2 t c =
     let called = c .before .before .before in
     let start = called .before .before .before .before in
-    rw (c .digit2 .ensures) (last-put (called .before .before .if1 .left) (start .fits .n .fits) (start .pre .1)
+    rw (c .digit-byte2 .ensures) (last-put (called .before .before .if1 .left) (start .fits .n .fits) (start .pre .1)
     (called .number .ensures))
 
 pub +number-spec : {M : Type 1} → statement M
 +number-spec = close μ-number λ t. number-lts.spec (number-claims t) (number-at t)
     number.Post
-    (digit-requires t)
-    (slice-write-out t)
-    (add-result t)
-    (same-length t)
-    (returns t)
-    (number-requires t)
-    (digit-requires-2 t)
-    (slice-write-out-2 t)
-    (add-result-2 t)
-    (same-length-2 t)
-    (returns-2 t)
+    (digit-byte-requires t) (slice-write-out t) (add-result t) (same-length t) (returns t) (number-requires t)
+    (digit-byte-requires-2 t) (slice-write-out-2 t) (add-result-2 t) (same-length-2 t) (returns-2 t)

@@ -3,7 +3,7 @@ use mathlib.Core.Path.{_≡_}
 use Prim.Native.Nat.{_+_, _-_}
 use lib.ListN.{length}
 use Rattle.text.specs.Progress.{ResumeLoop}
-use Rattle.text.specs.ProgressLaws.{turn-less, resume-loop-start, resume-loop-turn, resume-loop-next}
+use Rattle.text.specs.ProgressLaws.{resume-line-less, resume-loop-start, resume-loop-line, resume-loop-next}
 use Rattle.text.specs.ProgressLaws.{resume-loop-limit, resume-loop-stop, resume-loop-end}
 use Rattle.text.proofs.progress.resume.Statement.{statement}
 use Rattle.text.proofs.progress.resume.Tie as tie
@@ -29,21 +29,21 @@ returns-2 c =
     resume-loop-stop (more .before .before .loop .inv .0) (more .if1 .taken) (few .if2 .left) (room .if3 .taken)
     (c .stop .ensures)
 
-turn-requires : tie.Need-turn-requires Inv-loop μ-loop
-turn-requires c κs = (search needs, search (needs, resume-loop-turn))
+resume-line-requires : tie.Need-resume-line-requires Inv-loop μ-loop
+resume-line-requires c κs = (search needs, search (needs, resume-loop-line))
 
 loop-less : tie.Need-loop-less Inv-loop μ-loop
-loop-less c = search (needs, turn-less)
+loop-less c = search (needs, resume-line-less)
 
 loop-again : tie.Need-loop-again Inv-loop μ-loop
 loop-again c =
-    let turn = c .before .before .before .before .before .before in
-    let room = turn .before .before .before .before in
+    let line = c .before .before .before .before .before .before in
+    let room = line .before .before .before .before in
     let few = room .before .before in
     let more = few .before .before in
     let g = more .before .before .loop .inv .0 in (
-      resume-loop-next g (more .if1 .taken) (few .if2 .left) (resume-loop-turn g (more .if1 .taken) (room .if3 .left))
-          (search needs) (search needs) (turn .turn .ensures),
+      resume-loop-next g (more .if1 .taken) (few .if2 .left) (resume-loop-line g (more .if1 .taken) (room .if3 .left))
+          (search needs) (search needs) (line .resume-line .ensures),
       search needs,
     )
 
@@ -55,6 +55,6 @@ resume-spec =
     tie.close
     (tie.spec
     Inv-loop μ-loop loop-holds (λ c. search needs) (λ c. search needs) (λ c. search needs) returns (λ c. search needs)
-    (λ c κs. search needs) (λ c. search needs) (λ c. search needs) (λ c. search needs) returns-2 turn-requires loop-less
-    loop-again (λ c. search needs) (λ c. search needs)
+    (λ c κs. search needs) (λ c. search needs) (λ c. search needs) (λ c. search needs) returns-2 resume-line-requires
+    loop-less loop-again (λ c. search needs) (λ c. search needs)
     (λ c. search needs) returns-3)

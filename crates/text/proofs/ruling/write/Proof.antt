@@ -29,7 +29,8 @@ returns-3 c = rw (c .before .before .before .before .enum-told2 .given .1)
     (ruling-written-answer _ _ refl (c .before .before .write3 .ensures))
 
 returns-4 : tie.Need-returns-4
-returns-4 c = rw (c .before .before .before .before .before .ruling2 .given .1) (c .before .before .refuse .ensures)
+returns-4 c = rw (c .before .before .before .before .before .ruling2 .given .1)
+    (c .before .before .write-refusal .ensures)
 
 pub write-spec : {M : Type 1} → statement M
 write-spec =
