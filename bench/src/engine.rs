@@ -11,7 +11,7 @@ use crate::field::{self, Inverses};
 use crate::text::{Answer, Gate, Lists, Refusal, FULL};
 use cache::Cache;
 use count::Count;
-use operations::Made;
+use operations::Outcome;
 use store::{Edge, Store};
 
 pub struct Engine<C> {
@@ -80,7 +80,7 @@ impl<C: Count> Engine<C> {
 
     /// The gate's tensor, contracted with `e` over the middles of its qubits; then their fresh indices become the
     /// middles.
-    fn apply(&mut self, g: Gate, e: Edge) -> Made {
+    fn apply(&mut self, g: Gate, e: Edge) -> Outcome {
         let tensor = self.gate(g)?;
         let (p, q) = (u32::from(g.a.min(g.b)), u32::from(g.a.max(g.b)));
         let e = self.contract(tensor, e, 1 << (3 * p + 1) | 1 << (3 * q + 1))?;

@@ -1,7 +1,7 @@
 //! The unit and the gates as tensors (document 01, "Gates").
 
 use super::count::Count;
-use super::operations::Made;
+use super::operations::Outcome;
 use super::store::Edge;
 use super::Engine;
 use crate::text::{Gate, Kind};
@@ -37,7 +37,7 @@ fn constant(weight: u32) -> Edge {
 
 impl<C: Count> Engine<C> {
     /// 1 where input equals middle for each of n qubits, else 0.
-    pub(super) fn unit(&mut self, n: u8) -> Made {
+    pub(super) fn unit(&mut self, n: u8) -> Outcome {
         let mut e = constant(1);
         for q in (0..u32::from(n)).rev() {
             let a = self.join(3 * q + 1, e, Edge::ZERO)?;
@@ -47,7 +47,7 @@ impl<C: Count> Engine<C> {
         Some(e)
     }
 
-    pub(super) fn gate(&mut self, g: Gate) -> Made {
+    pub(super) fn gate(&mut self, g: Gate) -> Outcome {
         if g.a == g.b {
             return self.single(matrix(g.kind), u32::from(g.a));
         }
@@ -62,14 +62,14 @@ impl<C: Count> Engine<C> {
         self.pair(entries, u32::from(g.a.min(g.b)), u32::from(g.a.max(g.b)))
     }
 
-    fn single(&mut self, m: [[u32; 2]; 2], q: u32) -> Made {
+    fn single(&mut self, m: [[u32; 2]; 2], q: u32) -> Outcome {
         let l = self.join(3 * q + 2, constant(m[0][0]), constant(m[1][0]))?;
         let h = self.join(3 * q + 2, constant(m[0][1]), constant(m[1][1]))?;
         self.join(3 * q + 1, l, h)
     }
 
     /// A gate on p and q, p below q: by its input, then its output, p's bit counting double.
-    fn pair(&mut self, m: [[u32; 4]; 4], p: u32, q: u32) -> Made {
+    fn pair(&mut self, m: [[u32; 4]; 4], p: u32, q: u32) -> Outcome {
         let mut halves = [Edge::ZERO; 2];
         for (x, half) in halves.iter_mut().enumerate() {
             let mut parts = [Edge::ZERO; 2];

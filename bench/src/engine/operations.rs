@@ -7,7 +7,7 @@ use super::Engine;
 use crate::field;
 
 /// An edge to the result; None where the nodes would be more than the store holds.
-pub type Made = Option<Edge>;
+pub type Outcome = Option<Edge>;
 
 fn times(w: u32, e: Edge) -> Edge {
     Edge::new(field::mul(w, e.weight()), e.node())
@@ -30,7 +30,7 @@ impl<C: Count> Engine<C> {
     }
 
     /// The tensor that is l at 0 and h at 1 of the index k.
-    pub(super) fn join(&mut self, k: u32, l: Edge, h: Edge) -> Made {
+    pub(super) fn join(&mut self, k: u32, l: Edge, h: Edge) -> Outcome {
         if l == h {
             return Some(l);
         }
@@ -51,7 +51,7 @@ impl<C: Count> Engine<C> {
 
     // Inlined, as are `contract` and `lower`: the recursion then has one call for each step, and the ends cost none.
     #[inline(always)]
-    pub(super) fn sum(&mut self, a: Edge, b: Edge) -> Made {
+    pub(super) fn sum(&mut self, a: Edge, b: Edge) -> Outcome {
         if a.weight() == 0 {
             return Some(b);
         }
@@ -71,7 +71,7 @@ impl<C: Count> Engine<C> {
     }
 
     /// The node m plus a multiple of the node n.
-    fn sum_nodes(&mut self, m: u16, n: u16, ratio: u32) -> Made {
+    fn sum_nodes(&mut self, m: u16, n: u16, ratio: u32) -> Outcome {
         let key = Key::sum(m, n, ratio);
         let place = self.cache.place(key);
         let known = self.cache.get(place, key);
@@ -91,7 +91,7 @@ impl<C: Count> Engine<C> {
     }
 
     #[inline(always)]
-    pub(super) fn contract(&mut self, a: Edge, b: Edge, set: u32) -> Made {
+    pub(super) fn contract(&mut self, a: Edge, b: Edge, set: u32) -> Outcome {
         if a.weight() == 0 || b.weight() == 0 {
             return Some(Edge::ZERO);
         }
@@ -113,7 +113,7 @@ impl<C: Count> Engine<C> {
     }
 
     /// The nodes m and n, not both constant, with the lower top k.
-    fn contract_nodes(&mut self, m: u16, n: u16, k: u32, set: u32) -> Made {
+    fn contract_nodes(&mut self, m: u16, n: u16, k: u32, set: u32) -> Outcome {
         let key = Key::contract(m, n, set);
         let place = self.cache.place(key);
         let known = self.cache.get(place, key);
@@ -137,7 +137,7 @@ impl<C: Count> Engine<C> {
 
     /// The index k is renamed k - 1, on which `a` does not depend.
     #[inline(always)]
-    pub(super) fn lower(&mut self, a: Edge, k: u32) -> Made {
+    pub(super) fn lower(&mut self, a: Edge, k: u32) -> Outcome {
         let node = self.store.node(a.node());
         let top = node.index();
         if top > k {
@@ -153,7 +153,7 @@ impl<C: Count> Engine<C> {
     }
 
     /// The node n, whose top is below k.
-    fn lower_node(&mut self, n: u16, node: Node, k: u32) -> Made {
+    fn lower_node(&mut self, n: u16, node: Node, k: u32) -> Outcome {
         debug_assert!(node.index() < CONSTANT);
         let key = Key::lower(n, k);
         let place = self.cache.place(key);

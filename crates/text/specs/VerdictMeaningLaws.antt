@@ -137,7 +137,7 @@ module _ {d : ℕ} (A B : Tensor d) where
       some-factor n (f, inl s) = (f, is-factor f n s)
       some-factor n (f, inr s) = (_, is-factor _ n (scaled-back s))
 
--- the same ruling-means in other words
+-- the same in other words
 
 either : {M M' N N' : ℕ → Type 0} → ((f : ℕ) → M f → M' f) → ((f : ℕ) → N f → N' f) → (f : ℕ) × (M f ⊎ N f)
     → (f : ℕ) × (M' f ⊎ N' f)
@@ -178,7 +178,7 @@ scaled-values A B f = (
   },
 )
 
--- what is refused in a verdict's session is refused as full, and ruling-means as that
+-- what is refused in a verdict's session is refused as full, and the ruling says so
 
 ruling-not-no : (a : Answer) (f : Fault) (line : ℕ) → rulingOfAnswer a ≢ No f line
 ruling-not-no answers.Same f line e = let z : _≡_ {A = ℕ} 0 1 = cc in omega arith
@@ -230,7 +230,7 @@ module _ (c : Capacity) (text : Bytes) {n : ℕ} {gs hs : List Gate} (e : readTe
       go (was-full line l) h = absurd (h line refl)
       go was-compared h = tells-compared (listTensorOf gs) (listTensorOf hs)
 
-  -- "same", "factor" and "differ" are ruling-means exactly where the lists' tensors stand so
+  -- the ruling is "same", "factor" or "differ" exactly where the lists' tensors are equal, multiples, or neither
   pub verdict-means : NotFull c text → VerdictMeans c text n gs hs
   verdict-means h =
       let t = meaning-carry (agree-exactly (listTensorOf gs) (listTensorOf hs))
