@@ -94,8 +94,8 @@ module _ (d : ℕ) (f : ℕ → Node) (count : ℕ) (a : ℕ → ℕ) (canonical
     abbrev x' : Node
     x' = renumberNode (newNumber a) x
 
-    placed : NormalNode ts m x
-    placed =
+    in-form : NormalNode ts m x
+    in-form =
         let e : suc m - 1 ≡ m = omega arith in
         rw (e, node-there (suc m) (omega arith) (omega arith)) at
         (canonical .each (suc m) (omega arith) (rw (listed-length f count) (omega arith)))
@@ -109,10 +109,10 @@ module _ (d : ℕ) (f : ℕ → Node) (count : ℕ) (a : ℕ → ℕ) (canonical
     edge-moved e v h = ap (scale (toWeight (e .weight))) (s .kept (e .node) (v .within) h)
 
     low-moved : edgeIn us (x' .low) ≡ edgeIn ts (x .low)
-    low-moved = edge-moved (x .low) (placed .low) (λ n. closed .low (suc m) (omega arith) (omega arith) live n .1)
+    low-moved = edge-moved (x .low) (in-form .low) (λ n. closed .low (suc m) (omega arith) (omega arith) live n .1)
 
     high-moved : edgeIn us (x' .high) ≡ edgeIn ts (x .high)
-    high-moved = edge-moved (x .high) (placed .high) (λ n. closed .high (suc m) (omega arith) (omega arith) live n .1)
+    high-moved = edge-moved (x .high) (in-form .high) (λ n. closed .high (suc m) (omega arith) (omega arith) live n .1)
 
     tensor-moved : nodeTensor us x' ≡ nodeTensor ts x
     unfolding nodeTensor
@@ -125,15 +125,15 @@ module _ (d : ℕ) (f : ℕ → Node) (count : ℕ) (a : ℕ → ℕ) (canonical
       zero = λ z. (let n : e .node ≡ 0 = v .zero z in rw n (new-number-none a));
     }
 
-    placed-moved : NormalNode us (length (survivors a f m)) x'
-    placed-moved = record {
-      index = placed .index;
-      low = valid-moved (x .low) (placed .low);
-      high = valid-moved (x .high) (placed .high);
-      from-low = rw low-moved (placed .from-low);
-      from-high = rw high-moved (placed .from-high);
-      differ = rw (low-moved, high-moved) (placed .differ);
-      one = rw tensor-moved (placed .one);
+    moved-in-form : NormalNode us (length (survivors a f m)) x'
+    moved-in-form = record {
+      index = in-form .index;
+      low = valid-moved (x .low) (in-form .low);
+      high = valid-moved (x .high) (in-form .high);
+      from-low = rw low-moved (in-form .from-low);
+      from-high = rw high-moved (in-form .from-high);
+      differ = rw (low-moved, high-moved) (in-form .differ);
+      one = rw tensor-moved (in-form .one);
     }
 
     new : (n : ℕ) → n ≤ length (survivors a f m) → tensorAt us n ≢ nodeTensor us x'
@@ -158,7 +158,7 @@ module _ (d : ℕ) (f : ℕ → Node) (count : ℕ) (a : ℕ → ℕ) (canonical
             | no o ↦ at-kept (newNumber a n) (rw last (new-number-mono a n m (omega arith)))
                 (record { more = nodeTensor us x' ∷ []; is = refl }) ∙ s .kept n (omega arith) h
           ]);
-          nodes = canonical-more d (survivors a f m) x' (s .nodes) placed-moved new;
+          nodes = canonical-more d (survivors a f m) x' (s .nodes) moved-in-form new;
         }
 
   pub survived : (m : ℕ) → m ≤ count → SurvivorsKept d f count a (survivors a f m) m

@@ -31,7 +31,7 @@ flagFrom i j low high = cond (eqb i j) 1 (cond (eqb low 1) 1 high)
 unfoldable pub flagOf : ℕ → List ℕ → Node → ℕ
 flagOf j s x = flagFrom (x .index) j (flagAt s (x .low .node)) (flagAt s (x .high .node))
 
--- the children of node n have records
+-- node n has a record, and its children stand before it
 pub record FlagNodeRequires (s : List ℕ) (n : ℕ) : Type 0 where
   pub within : RecordWithin s n
   pub low : nodeAt s n .low .node < n

@@ -143,22 +143,22 @@ module _ {j : ℕ} {s s' : List ℕ} {last m : ℕ} (below : m < last) (h : Depe
     inside : suc m ≤ length xs
     inside = omega (arith, nodes-length s st)
 
-    placed : NormalNode (tensors indices xs) m x
-    placed = let e : suc m - 1 ≡ m = omega arith in rw (e, here) at (held .nodes .each (suc m) (omega arith) inside)
+    in-form : NormalNode (tensors indices xs) m x
+    in-form = let e : suc m - 1 ≡ m = omega arith in rw (e, here) at (held .nodes .each (suc m) (omega arith) inside)
 
     pub depends-parent : FlagNodeRequires s' (m + 1)
     depends-parent = rw (add-one m) record {
       within = record { first = omega arith; last = omega (arith, h .alike .long, held .stored .room) };
-      low = omega (arith, placed .low .within);
-      high = omega (arith, placed .high .within);
+      low = omega (arith, in-form .low .within);
+      high = omega (arith, in-form .high .within);
     }
 
     new : flagOf j s' x ≡ flagNumber (depends j (tensorAt (setOf s st) (suc m)))
     unfolding flagOf setOf
     new = rw (
-      h .flags st held all (x .low .node) (placed .low .within),
+      h .flags st held all (x .low .node) (in-form .low .within),
       h .flags st held all (x .high .node)
-          (placed .high .within),
+          (in-form .high .within),
     )
         (flag-bits (x .index) j _ _ ∙ ap flagNumber (sym (depends-node indices xs (held .nodes) j (suc m)
         (omega arith) inside x here)))

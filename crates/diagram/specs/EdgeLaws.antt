@@ -175,8 +175,8 @@ module _ {s : List ℕ} {st : State} {a : Edge} {k : ℕ} (held : Sound s st) (f
     here : nodeIn indices xs (a .node) ≡ x
     here = node-at indices s st (a .node) (omega arith) (f .valid .within) ∙ sym read
 
-    placed : NormalNode (tensors indices xs) (a .node - 1) x
-    placed = rw here at (held .nodes .each (a .node) (omega arith) inside)
+    in-form : NormalNode (tensors indices xs) (a .node - 1) x
+    in-form = rw here at (held .nodes .each (a .node) (omega arith) inside)
 
     -- a's node has the index k
     module _ (own : x .index ≡ k) where
@@ -186,13 +186,13 @@ module _ {s : List ℕ} {st : State} {a : Edge} {k : ℕ} (held : Sound s st) (f
         where
           go : (b : Bool)
               → edgeIn (tensors indices xs) (child b x) ≡ fix (x .index) b (nodeTensor (tensors indices xs) x)
-          go false = sym (normal-node-low placed)
-          go true = sym (normal-node-high placed)
+          go false = sym (normal-node-low in-form)
+          go true = sym (normal-node-high in-form)
 
       child-valid : (b : Bool) → Valid (st .count) (child b x)
       unfolding child
-      child-valid false = valid-more _ (omega (arith, f .valid .within)) (placed .low)
-      child-valid true = valid-more _ (omega (arith, f .valid .within)) (placed .high)
+      child-valid false = valid-more _ (omega (arith, f .valid .within)) (in-form .low)
+      child-valid true = valid-more _ (omega (arith, f .valid .within)) (in-form .high)
 
       times-child : (b : Bool) (r : Edge) → IsMultiple (a .weight) (child b x) r → IsCofactor s st a k b r
       unfolding tensorOf setOf edgeIn
@@ -210,4 +210,4 @@ module _ {s : List ℕ} {st : State} {a : Edge} {k : ℕ} (held : Sound s st) (f
       cofactor-high {r = r} q t = rw q (times-child true r t)
 
     pub high-small : x .high .weight < modulus
-    high-small = placed .high .small
+    high-small = in-form .high .small

@@ -64,11 +64,11 @@ module _ (d : ℕ) (xs : List Node) (c : Canonical d xs) where
       some-same : {m n : ℕ} → some m ≡ some n → m ≡ n
       some-same e = cc
 
-  -- a placed node that is none of the nodes has a tensor that none of them has
-  placed-new : (x : Node) → NormalNode ts (length xs) x → Missing x → (n : ℕ) → n ≤ length xs
+  -- a node in normal form that is none of the nodes has a tensor that none of them has
+  normal-node-new : (x : Node) → NormalNode ts (length xs) x → Missing x → (n : ℕ) → n ≤ length xs
       → tensorAt ts n ≢ nodeTensor ts x
-  placed-new x h a zero p e = no-some (sym (normal-node-top h) ∙ ap top (sym e ∙ at-zero ts) ∙ top-constant d 1W)
-  placed-new x h a (suc n) p e =
+  normal-node-new x h a zero p e = no-some (sym (normal-node-top h) ∙ ap top (sym e ∙ at-zero ts) ∙ top-constant d 1W)
+  normal-node-new x h a (suc n) p e =
       let g = c .each (suc n) (omega arith) p in
       a (suc n) (omega arith) p (normal-node-unique {n = length xs} _ x (omega arith) (omega arith) g h
       (sym (c .meaning (suc n) (omega arith) p) ∙ e))
@@ -134,8 +134,8 @@ module _ (d : ℕ) (xs : List Node) (c : Canonical d xs) where
     unfolding nodeTensor
     first-node = rw (z .index) (first-joined k _ _ inside (low .from) (high .from) ∙ leads (z .leading))
 
-    placed : NormalNode ts (length xs) x
-    placed =
+    in-form : NormalNode ts (length xs) x
+    in-form =
         record {
           index = rw (z .index) inside;
           low = low .valid;
@@ -165,7 +165,8 @@ module _ (d : ℕ) (xs : List Node) (c : Canonical d xs) where
     -- the node is new
     module _ (a : Missing x) where
       absent : member (normal (joined k (edgeIn ts l) (edgeIn ts h))) ts ≡ false
-      absent = rw normal-is (member-none _ ts (λ n p. placed-new x placed a n (omega (arith, p, tensors-length d xs))))
+      absent = rw normal-is (member-none _ ts (λ n p. normal-node-new x in-form a n
+          (omega (arith, p, tensors-length d xs))))
 
       pub join-more : let us = tensors d (xs ++ (x ∷ [])) in
           join k (edgeIn ts l) (edgeIn ts h) ts ≡ (edgeIn us (record { weight = w; node = suc (length xs) }), us)
@@ -176,7 +177,7 @@ module _ (d : ℕ) (xs : List Node) (c : Canonical d xs) where
           (ap suc (tensors-length d xs)))))
 
       pub join-canonical : Canonical d (xs ++ (x ∷ []))
-      join-canonical = canonical-more d xs x c placed (placed-new x placed a)
+      join-canonical = canonical-more d xs x c in-form (normal-node-new x in-form a)
 
 module _ {s : List ℕ} {st : State} {k : ℕ} {l h : Edge} (held : Sound s st) (j : JoinRequires s st k l h) (b : Bool)
     (told : Decides (l ≡ h) b) where

@@ -126,20 +126,20 @@ module _ (d : ℕ) (f : ℕ → Node) (count : ℕ) (a : ℕ → ℕ) (canonical
 
   -- node r: its top is its index, its cofactors are its edges' tensors
   module _ (r : ℕ) (p : 1 ≤ r) (q : r ≤ count) where
-    placed : NormalNode ts (r - 1) (f r)
-    placed = rw (node-there d f count a canonical closed r p q) at (canonical .each r p (inside r q))
+    in-form : NormalNode ts (r - 1) (f r)
+    in-form = rw (node-there d f count a canonical closed r p q) at (canonical .each r p (inside r q))
 
     is-node : tensorAt ts r ≡ nodeTensor ts (f r)
     is-node = rw (node-there d f count a canonical closed r p q) at (canonical .meaning r p (inside r q))
 
     has-top : top (tensorAt ts r) ≡ some (f r .index)
-    has-top = rw is-node (normal-node-top placed)
+    has-top = rw is-node (normal-node-top in-form)
 
     low-part : fix (f r .index) false (tensorAt ts r) ≡ edgeIn ts (f r .low)
-    low-part = rw is-node (normal-node-low placed)
+    low-part = rw is-node (normal-node-low in-form)
 
     high-part : fix (f r .index) true (tensorAt ts r) ≡ edgeIn ts (f r .high)
-    high-part = rw is-node (normal-node-high placed)
+    high-part = rw is-node (normal-node-high in-form)
 
   is-normal : (n : ℕ) → n ≤ count → normal (tensorAt ts n) ≡ tensorAt ts n
   is-normal n p = normal-same (tensorAt ts n) (node-first d (listed f count) canonical n (inside n p))
@@ -188,8 +188,8 @@ module _ (d : ℕ) (f : ℕ → Node) (count : ℕ) (a : ℕ → ℕ) (canonical
             (let l : e .node < r = near .0 in omega arith) (near .1) (down .1)
 
         go : (b : Bool) → Reachable (tensorAt ts n) (fix (f r .index) b (tensorAt ts r)) → a n ≢ 0
-        go false h = child (f r .low) (placed r p q .low) (closed .low r p q live) (rw (low-part r p q) at h)
-        go true h = child (f r .high) (placed r p q .high) (closed .high r p q live) (rw (high-part r p q) at h)
+        go false h = child (f r .low) (in-form r p q .low) (closed .low r p q live) (rw (low-part r p q) at h)
+        go true h = child (f r .high) (in-form r p q .high) (closed .high r p q live) (rw (high-part r p q) at h)
 
     reach-below : (bound r : ℕ) → r < bound → Marks-all r
     reach-below zero r l = absurd (omega arith)
@@ -212,11 +212,11 @@ module _ (d : ℕ) (f : ℕ → Node) (count : ℕ) (a : ℕ → ℕ) (canonical
 
   reach-low : (n : ℕ) → 1 ≤ n → n ≤ count → f n .low .node ≢ 0
       → Reachable (tensorAt ts (f n .low .node)) (tensorAt ts n)
-  reach-low n p q = reach-child n p q false (f n .low) (placed n p q .low) (low-part n p q)
+  reach-low n p q = reach-child n p q false (f n .low) (in-form n p q .low) (low-part n p q)
 
   reach-high : (n : ℕ) → 1 ≤ n → n ≤ count → f n .high .node ≢ 0
       → Reachable (tensorAt ts (f n .high .node)) (tensorAt ts n)
-  reach-high n p q = reach-child n p q true (f n .high) (placed n p q .high) (high-part n p q)
+  reach-high n p q = reach-child n p q true (f n .high) (in-form n p q .high) (high-part n p q)
 
   register-marked : (n : ℕ) → n ≤ count → (es : List Edge) → AllValid count es → AllMarked a es
       → (T : Tensor d) → member T (tensorsOf ts es) ≡ true → Reachable (tensorAt ts n) T → a n ≢ 0
@@ -271,11 +271,11 @@ module _ (d : ℕ) (f : ℕ → Node) (count : ℕ) (a : ℕ → ℕ) (canonical
     pub kept-closed : MarksClosed keptMark f count
     kept-closed = record {
       low = λ n p q m z. (
-        let w : f n .low .node ≤ n - 1 = placed n p q .low .within in omega arith,
+        let w : f n .low .node ≤ n - 1 = in-form n p q .low .within in omega arith,
         kept-child n (f n .low .node) m (reach-low n p q z),
       );
       high = λ n p q m z. (
-        let w : f n .high .node ≤ n - 1 = placed n p q .high .within in omega arith,
+        let w : f n .high .node ≤ n - 1 = in-form n p q .high .within in omega arith,
         kept-child n (f n .high .node) m (reach-high n p q z),
       );
     }

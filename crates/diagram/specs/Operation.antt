@@ -43,12 +43,12 @@ abbrev pub OutcomeFits : Outcome → Type 0
 OutcomeFits (outcome.Edge e st) = EdgeFits e
 OutcomeFits outcome.Full = Unit {0}
 
--- the outcome r is w times the outcome m
+-- the outcome r is w times the other outcome
 abbrev pub MultipleOutcome : ℕ → Outcome → Outcome → Type 0
 MultipleOutcome w (outcome.Edge e st) r = (f : Edge) × (IsMultiple w e f × (r ≡ outcome.Edge f st))
 MultipleOutcome w outcome.Full r = r ≡ outcome.Full
 
--- the outcome m was remembered, unless it is full
+-- the outcome was remembered, unless it is full
 abbrev pub KeepEnsures : List ℕ → List ℕ → ℕ → Key → Outcome → Type 0
 KeepEnsures c c' epoch k (outcome.Edge e st) = RememberEnsures c c' epoch k e
 KeepEnsures c c' epoch k outcome.Full = c' ≡ c

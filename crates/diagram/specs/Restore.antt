@@ -1,4 +1,4 @@
--- Starting with no nodes, and coming back from a call that was refused.
+-- Starting with no nodes, and coming back from a refused call or a sweep.
 use mathlib.Core.Path.{_≡_}
 use mathlib.Core.List.{List, []}
 use Prim.Native.Nat.{ℕ, _*_, _≤_, _<_}
@@ -17,7 +17,7 @@ pub record StartEnsures (c s s' : List ℕ) (st : State) : Type 0 where
   pub forgotten : AllEarlier c (st .epoch)
   pub none : nodesOf s' st ≡ []
 
--- what a refused call leaves: the nodes of the state before it, perhaps more nodes and a table of more
+-- what a refused call or a sweep leaves: the nodes of the state, perhaps more nodes, and a table to be made anew
 pub record RollbackRequires (c s : List ℕ) (st : State) : Type 0 where
   pub room : 16 * st .count ≤ length s
   pub numbered : st .count < 65536

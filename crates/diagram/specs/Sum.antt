@@ -1,4 +1,4 @@
--- Sum in the store (document 01, sum): its parts, in the order of the code.
+-- Sum in the store (document 01, sum): the edges that are split.
 use mathlib.Core.Path.{_≡_}
 use mathlib.Core.Logic.{_≢_}
 use Rattle.diagram.specs.declared.node.Edge.{Edge}

@@ -17,7 +17,7 @@ unfoldable pub last : (ℕ → ℕ) → ℕ → ℕ → ℕ
 last h b zero = 0
 last h b (suc m) = cond (eqb (h (suc m)) b) (suc m) (last h b m)
 
--- what `last` says of itself, by induction
+-- r is the largest n of 1 .. m with h n ≡ b, or 0: what `last` answers
 pub record IsLast (h : ℕ → ℕ) (b m r : ℕ) : Type 0 where
   pub within : r ≤ m
   pub hit : 1 ≤ r → h r ≡ b

@@ -48,7 +48,7 @@ last-is h b (suc m) = go (eqb (h (suc m)) b) refl (last-is h b m)
           ];
         }
 
--- only the marks of 1 .. m count
+-- only the buckets of 1 .. m count
 pub last-ext : (h h' : ℕ → ℕ) (b m : ℕ) → ((n : ℕ) → 1 ≤ n → n ≤ m → h n ≡ h' n) → last h b m ≡ last h' b m
 unfolding last
 last-ext h h' b zero e = refl

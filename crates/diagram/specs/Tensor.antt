@@ -20,7 +20,7 @@ indices = indexCount
 abbrev pub masks : ℕ
 masks = 16777216
 
--- the one law of a definitions file: nothing outside can open `indices`
+-- a law in a file of definitions: nothing outside can open `indices`
 pub indices-count : indices ≡ indexCount
 unfolding indices
 indices-count = refl
@@ -97,8 +97,7 @@ fix (suc k) b (split l h) = split (fix k b l) (fix k b h)
 unfoldable pub depends : {d : ℕ} → ℕ → Tensor d → Bool
 depends k T = not (same (fix k false T) (fix k true T))
 
--- "A tensor is normal if it is not constant and its first nonzero value is 1, reading assignments with index 0 varying
--- slowest"
+-- is T zero?
 unfoldable pub isZero : {d : ℕ} → Tensor d → Bool
 isZero (weight w) = sameW w 0W
 isZero (split l h) = isZero l && isZero h
@@ -108,6 +107,8 @@ unfoldable pub first : {d : ℕ} → Tensor d → Weight
 first (weight w) = w
 first (split l h) = cond (isZero l) (first h) (first l)
 
+-- "A tensor is normal if it is not constant and its first nonzero value is 1, reading assignments with index 0 varying
+-- slowest"
 pub record Normal {d : ℕ} (T : Tensor d) : Type 0 where
   pub index : ℕ
   pub depends : top T ≡ some index
@@ -128,8 +129,8 @@ scale c (split l h) = split (scale c l) (scale c h)
 unfoldable pub normal : {d : ℕ} → Tensor d → Tensor d
 normal T = scale (inverseW (first T)) T
 
--- sum: "If one is a multiple of the other", where neither is zero (that it says this: multiple-eq and multiple-of in
--- ScaleLaws)
+-- sum: "If one is a multiple of the other", where neither is zero (that it says this: `multiple-eq` and `multiple-of`
+-- in TensorScaleLaws)
 unfoldable pub multiple : {d : ℕ} → Tensor d → Tensor d → Bool
 multiple A B = same (normal A) (normal B)
 

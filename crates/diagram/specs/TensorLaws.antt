@@ -1,4 +1,5 @@
--- Laws of the operations on tensors: equality, values, scaling, zero, fixing and joining. (Sum and product: RingLaws.)
+-- Laws of the operations on tensors: equality, values, scaling, zero, fixing and joining. (Sum and product:
+-- TensorRingLaws.)
 use mathlib.Core.Path.{_≡_, refl, ap, ap₂, sym, _∙_}
 use mathlib.Core.Bool.{Bool, true, false}
 use Prim.Native.Nat.{ℕ, zero, suc, _+_, _%_, _^_, _<_}

@@ -11,7 +11,7 @@ use Rattle.diagram.specs.Store.{setOf, tensorOf, Sound}
 use Rattle.diagram.specs.declared.node.Edge.{Edge}
 use Rattle.diagram.specs.declared.make.State.{State}
 
--- e's tensor is built in a sound store, and does not depend on the indices of qubit q or of those before it
+-- e's tensor is built in a sound store, and does not depend on the input or middle of qubit q, or on any index before
 pub record OntoRequires (s : List ℕ) (st : State) (q : ℕ) (e : Edge) : Type 0 where
   pub sound : Sound s st
   pub qubit : q < 8

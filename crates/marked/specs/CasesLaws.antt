@@ -57,24 +57,23 @@ unfolding touching allTouching growSession.qubitsBelow growSession.touches growS
     args.numbers args.byCount call.checkRegister call.checkRange call.checkApart call.callOf textGate.gateCallFields
     line.callFields line.readLine print.digits print.decimal answer.lineOfFields answer.printed check.headerNumbers
     check.headerFields check.headerOf check.ensured check.gateItemOf check.gateItemFields check.itemOf check.withFirst
-    check.withSecond check.secondItem check.secondList check.firstItem check.firstList check.afterHeader
-    check.readLines check.readText ruling.printedRuling session.emptyTally session.nodeCount session.refuse
-    session.accept session.settle session.withTensor session.withRegister session.answer session.emptyRun
-    session.withAnswer session.stoppedRun session.run session.session qubits.middles verdictSession.lowCalls
-    verdictSession.gateCalls verdictSession.atLine verdictSession.gatesCalls verdictSession.listCalls
-    verdictSession.sessionCalls verdictSession.continueWith verdictSession.perform verdictSession.rulingAtEnd
-    verdictSession.rulingOfReading verdictSession.rulingOn verdictSession.verdictResult tensor.at tensor.bits
-    tensor.value tensor.same tensor.constant tensor.top tensor.fix tensor.depends tensor.isZero tensor.first
-    tensor.joined tensor.scale tensor.normal tensor.multiple tensor.plus tensor.top2 tensor.times tensor.members
-    tensor.power2 tensor.assign tally.return tally._>>=_ tally.member tally.put tally.joinCases tally.join tally.both
-    tally.sumCases tally.sumBody tally.sum tally.contCases tally.contBody tally.cont tally.halves tally.lowAt
-    tally.lowCases tally.lowBody tally.low tally.buildCases tally.buildBody tally.build tally.fixBoth
-    tally.cofactorsBelow tally.normalAt tally.normals tally.keeps tally.keepOnly tally.collect tally.filledTensors diagramGate.matrix
-    diagramGate.onQubit diagramGate.entry diagramGate.gateTensor diagramGate.straight diagramGate.unitEntry
-    diagramGate.unitTensor tabulate.tabulate descend.descendF descend.descend descend.topMeasure descend.onTop
-    descend.onTop2 compare.ratio compare.compared weight.toWeight weight.0W weight.1W weight.plusW weight.timesW
-    weight.negateW weight.sameW weight.onesPower weight.inverseW weight.eighthRoot weight.imaginaryUnit weight.rootTwo
-    weight.inverseRootTwo xor
+    check.withSecond check.secondItem check.secondList check.firstItem check.firstList check.afterHeader check.readLines
+    check.readText ruling.printedRuling session.emptyTally session.nodeCount session.refuse session.accept
+    session.settle session.withTensor session.withRegister session.answer session.emptyRun session.withAnswer
+    session.stoppedRun session.run session.session qubits.middles verdictSession.lowCalls verdictSession.gateCalls
+    verdictSession.atLine verdictSession.gatesCalls verdictSession.listCalls verdictSession.sessionCalls
+    verdictSession.continueWith verdictSession.perform verdictSession.rulingAtEnd verdictSession.rulingOfReading
+    verdictSession.rulingOn verdictSession.verdictResult tensor.at tensor.bits tensor.value tensor.same tensor.constant
+    tensor.top tensor.fix tensor.depends tensor.isZero tensor.first tensor.joined tensor.scale tensor.normal
+    tensor.multiple tensor.plus tensor.top2 tensor.times tensor.members tensor.power2 tensor.assign tally.return
+    tally._>>=_ tally.member tally.put tally.joinCases tally.join tally.both tally.sumCases tally.sumBody tally.sum
+    tally.contCases tally.contBody tally.cont tally.halves tally.lowAt tally.lowCases tally.lowBody tally.low
+    tally.buildCases tally.buildBody tally.build tally.fixBoth tally.cofactorsBelow tally.normalAt tally.normals
+    tally.keeps tally.keepOnly tally.collect tally.filledTensors diagramGate.matrix diagramGate.onQubit
+    diagramGate.entry diagramGate.gateTensor diagramGate.straight diagramGate.unitEntry diagramGate.unitTensor
+    tabulate.tabulate descend.descendF descend.descend descend.topMeasure descend.onTop descend.onTop2 compare.ratio
+    compare.compared weight.toWeight weight.0W weight.1W weight.plusW weight.timesW weight.negateW weight.sameW
+    weight.onesPower weight.inverseW weight.eighthRoot weight.imaginaryUnit weight.rootTwo weight.inverseRootTwo xor
 with-three = (
   (refl, (refl, (refl, (refl, (refl, (refl, (refl, (refl, (refl, (refl, (refl, (refl, (refl, (refl, (refl, (refl, tt)))))))))))))))),
   refl,

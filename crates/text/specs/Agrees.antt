@@ -24,7 +24,7 @@ use Rattle.text.specs.declared.progress.SessionResult.{SessionResult}
 
 -- the tensors of the nodes from 1 up, read off the store's bytes; node 0 is the constant 1 (tensorAt)
 unfoldable pub nodeTensors : Bytes → ℕ → Set indices
-nodeTensors s nodeCount = tensors indices (listed (nodeAt s) nodeCount)
+nodeTensors s count = tensors indices (listed (nodeAt s) count)
 
 -- register i of a session's result
 abbrev pub registerIn : List Register → ℕ → Register
@@ -97,9 +97,9 @@ pub record Agrees (s o o' : Bytes) (r : SessionResult) (t : TallyRun indices) : 
   pub lines : r .lines ≡ t .answered
   pub count : r .count ≡ nodeCount (t .tally)
   pub bytes : r .bytes ≡ length (t .output)
+  pub code : r .code ≡ t .code
   -- "Output bytes after those written are untouched."
   pub printed : o' ≡ written o 0 (t .output)
-  pub code : r .code ≡ t .code
 
 -- "a refused line changes no register and leaves no new node": the nodes of the store, m of them, and the registers'
 -- words are as before it

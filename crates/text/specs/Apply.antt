@@ -22,7 +22,7 @@ renameStep (q ∷ qs) T = low (3 * q + 2) T >>= renameStep qs
 unfoldable pub contractStep : {d : ℕ} → List ℕ → Tensor d → Tensor d → Step d
 contractStep qs T A = cont A T (bits (middles qs)) >>= renameStep qs
 
--- "each gate .. into 2", and the others
+-- "each gate .. into 2", and then the steps above
 unfoldable pub applyStep : {d : ℕ} → Gate → Tensor d → Step d
 applyStep {d} g T = build (gateTensor d g) >>= contractStep (qubits g) T
 
@@ -54,7 +54,7 @@ unfoldable pub appliedList : {d : ℕ} → List Gate → Tensor d → Tensor d
 appliedList [] T = T
 appliedList (g ∷ gs) T = appliedList gs (appliedTensor g T)
 
--- T depends on no middle of these qubits
+-- these qubits rise and fit, and T depends on no middle of them
 pub record Renamable (qs : List ℕ) (T : Tensor indices) : Type 0 where
   pub rising : Rising indices 0 qs
   pub free : AllFree qs T

@@ -56,7 +56,7 @@ gateItemOf n name =
     (λ q. oneQubitItem n q (oneQubit name q))
     (λ p q. twoQubitItem n p q (twoQubits name p q))
 
--- "gate lines, name then qubits as single digits": numbers of 1 to 1 digits
+-- "gate lines, name then qubits as single digits": numbers of one digit
 unfoldable pub gateItemFields : ℕ → List Bytes → Item
 gateItemFields n [] = item.Faulty Line
 gateItemFields n (name ∷ qubits) = gateItemOf n name (numbers 1 None qubits)

@@ -15,11 +15,12 @@ use Rattle.text.specs.VerdictSession.{NumberedCall, sessionCalls, Perfor
 use Rattle.text.specs.declared.call.Call.{Call}
 use Rattle.text.specs.declared.call.Call.the-variants as call
 
--- does a call touch only indices below d?
+-- are all indices of these qubits below d?
 unfoldable pub qubitsBelow : ℕ → List ℕ → Bool
 qubitsBelow d [] = true
 qubitsBelow d (q ∷ qs) = leb (3 * q + 3) d && qubitsBelow d qs
 
+-- does a call touch only indices below d?
 unfoldable pub touches : ℕ → Call → Bool
 touches d (call.Put r w) = true
 touches d (call.Gate r g) = qubitsBelow d (qubits g)

@@ -28,7 +28,7 @@ needless (x ∷ y ∷ s) = eqb x 48
 unfoldable pub numberOf : ℕ → Bytes → Number
 numberOf most s = cond (leb 1 (length s) && leb (length s) most && not (needless s)) (digitsFrom 0 s) Malformed
 
--- `digits` has read i digits, which make v
+-- `read_digits` has read i digits, which make v
 pub record ReadDigitsLoop (s : Bytes) (v i : ℕ) : Type 0 where
   pub within : i ≤ length s
   pub small : v < 10 ^ i

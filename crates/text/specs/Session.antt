@@ -25,8 +25,8 @@ use Rattle.text.specs.declared.call.Call.{Call}
 use Rattle.diagram.specs.declared.compare.Comparison.the-variants as compare
 use Rattle.text.specs.declared.call.Call.the-variants as call
 
--- "Capacity is the lent store's bytes divided by 16, rounded down, at most 65,535; it may be 0." A list's tensor is
--- defined at unlimited capacity.
+-- At most so many nodes (`capacity` of the lent store, in diagram's Node); or no limit: "A list's tensor is the one its
+-- register ends with at unlimited capacity."
 pub data Capacity : Type 0 where
   atMost : ℕ → Capacity
   unlimited : Capacity
