@@ -6,7 +6,7 @@ use crate::gate::Qubit;
 use crate::join;
 use crate::join::Outcome;
 use crate::make::State;
-use crate::mask::Assignment;
+use crate::node::Assignment;
 use crate::node::Edge;
 use crate::node::INDICES;
 use crate::node::Index;

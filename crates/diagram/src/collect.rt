@@ -1,8 +1,10 @@
 // Collection (document 01, `collect`): the nodes that no filled register reaches go, the gaps close, the order stays.
 // Marks and new numbers live in the records meanwhile; the unique table is made anew, and nothing is remembered across.
 use crate::compact;
+use crate::make::BucketCount;
 use crate::make::State;
 use crate::mark;
+use crate::node::NodeCount;
 use crate::registers::Registers;
 use crate::restore;
 ghost use Prim.Native.Nat.{_*_, _≤_, _<_};
@@ -13,7 +15,7 @@ ghost use Rattle.diagram.specs.Registers.{RegistersValid};
 ghost use Rattle.diagram.specs.Collect.{SweepEnsures, CollectRequires, CollectEnsures};
 
 struct SweepResult {
-    count: usize,
+    count: NodeCount,
     registers: Registers,
 }
 
@@ -23,7 +25,7 @@ pub struct CollectResult {
 }
 
 // Moves the reached nodes down; the answer is how many they are, and the registers with their nodes' new numbers.
-fn sweep(store: &mut [u8], count: usize, registers: Registers) -> SweepResult
+fn sweep(store: &mut [u8], count: NodeCount, registers: Registers) -> SweepResult
     requires { ⌜ (16 * count ≤ length (now store)) × ((count < 65536) ×
         (ChildrenBefore (nodeAt (now store)) count × RegistersValid count (registers .all))) ⌝ }
     ensures { λ r. ⌜ SweepEnsures count (registers .all) (now (store .entry)) (now (store .exit)) (r .count)
@@ -40,7 +42,7 @@ fn sweep(store: &mut [u8], count: usize, registers: Registers) -> SweepResult
 
 // Fewer buckets for far fewer nodes, so that the next table costs in proportion to the nodes; some to spare, since the
 // next gate makes about as many nodes again.
-fn fewer(count: usize, buckets: usize) -> usize
+fn fewer(count: NodeCount, buckets: BucketCount) -> BucketCount
     ensures { λ r. ⌜ (1 ≤ buckets → (1 ≤ r) × (r ≤ buckets)) ⌝ }
 {
     let mut b = buckets;

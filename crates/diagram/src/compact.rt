@@ -3,6 +3,7 @@ use crate::fields;
 use crate::node;
 use crate::node::Edge;
 use crate::node::Node;
+use crate::node::NodeCount;
 use crate::node::NodeNumber;
 use crate::registers::Register;
 use crate::registers::Registers;
@@ -53,7 +54,7 @@ fn shift(s: &mut [u8], n: NodeNumber, k: NodeNumber)
 }
 
 // Looks at node m + 1, where k nodes have moved; the answer is how many have then.
-fn compact_step(s: &mut [u8], count: usize, m: usize, k: usize) -> usize
+fn compact_step(s: &mut [u8], count: NodeCount, m: NodeCount, k: NodeCount) -> NodeCount
     requires { ⌜ (m < count) × ((16 * count ≤ length (now s)) ×
         ((count < 65536) × ((k ≤ m) × (field (now s) 5 m ≢ 0 → ChildrenWithin (now s) (m + 1))))) ⌝ }
     ensures { λ r. ⌜ CompactStepEnsures count (now (s .entry)) (now (s .exit)) m k r ⌝ }
@@ -68,13 +69,13 @@ fn compact_step(s: &mut [u8], count: usize, m: usize, k: usize) -> usize
 }
 
 // Moves the marked nodes of 1 .. count down; the answer is how many they are.
-pub(crate) fn compact(s: &mut [u8], count: usize) -> usize
+pub(crate) fn compact(s: &mut [u8], count: NodeCount) -> NodeCount
     requires { ⌜ (16 * count ≤ length (now s)) × ((count < 65536) × MarksClosed (λ n. field (now s) 5 (n - 1))
         (nodeAt (now s)) count) ⌝ }
     ensures { λ r. ⌜ CompactEnsures (now (s .entry)) (now (s .exit)) count r ⌝ }
 {
     let mut m = 0;
-    let mut k: usize = 0;
+    let mut k: NodeCount = 0;
     while m < count {
         k = compact_step(s, count, m, k);
         m += 1;
@@ -99,7 +100,7 @@ fn moved(s: &[u8], r: Register) -> Register
 }
 
 // The registers with their nodes' new numbers.
-pub(crate) fn renumber(s: &[u8], count: usize, registers: Registers) -> Registers
+pub(crate) fn renumber(s: &[u8], count: NodeCount, registers: Registers) -> Registers
     requires { ⌜ (16 * count ≤ length (now s)) × RegistersValid count (registers .all) ⌝ }
     ensures { λ r. ⌜ r .all ≡ renumberRegisters (forwarded (now (s .entry))) (registers .all) ⌝ }
 {

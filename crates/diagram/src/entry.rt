@@ -3,7 +3,7 @@ use crate::gate;
 use crate::gate::Gate;
 use crate::gate::Qubit;
 use crate::mask;
-use crate::mask::Assignment;
+use crate::node::Assignment;
 use crate::node::Index;
 use crate::node::Weight;
 ghost use mathlib.Core.Path.{_≡_};

@@ -6,6 +6,8 @@ ghost use Rattle.diagram.specs.Gate.{numbers, matrix as matrixOf, shape 
 // One of the qubits 0 to 7.
 pub type Qubit = usize;
 
+pub type QubitCount = usize;
+
 // A gate on its qubit, or on its two: for CX the control first.
 pub enum Gate {
     X(Qubit),

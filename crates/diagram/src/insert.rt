@@ -1,7 +1,9 @@
 // Nodes into the unique table: one more, and all of them anew.
 use crate::fields;
+use crate::make::BucketCount;
 use crate::node;
 use crate::node::Node;
+use crate::node::NodeCount;
 use crate::node::NodeNumber;
 use crate::table;
 ghost use mathlib.Core.Path.{_≡_};
@@ -12,7 +14,7 @@ ghost use Rattle.diagram.specs.Table.{TableSound};
 ghost use Rattle.diagram.specs.Insert.{linkNode, TableFits, AppendEnsures, ClearEnsures, RebuildEnsures};
 
 // Puts node n at the front of its chain.
-fn link(s: &mut [u8], buckets: usize, n: NodeNumber)
+fn link(s: &mut [u8], buckets: BucketCount, n: NodeNumber)
     requires { ⌜ RecordWithin (now s) n × TableFits (now s) n buckets ⌝ }
     ensures { λ _. ⌜ now (s .exit) ≡ linkNode buckets n (now (s .entry)) ⌝ }
 {
@@ -23,7 +25,7 @@ fn link(s: &mut [u8], buckets: usize, n: NodeNumber)
 }
 
 // One more node, x, after count nodes.
-pub(crate) fn append(s: &mut [u8], count: usize, buckets: usize, x: Node)
+pub(crate) fn append(s: &mut [u8], count: NodeCount, buckets: BucketCount, x: Node)
     requires { ⌜ TableSound (now s) count buckets × (RecordWithin (now s) (count + 1) ×
         ((count + 1 < 65536) × NodeFits x)) ⌝ }
     ensures { λ _. ⌜ AppendEnsures (now (s .entry)) (now (s .exit)) count buckets x ⌝ }
@@ -34,7 +36,7 @@ pub(crate) fn append(s: &mut [u8], count: usize, buckets: usize, x: Node)
 }
 
 // Empties the buckets.
-fn clear(s: &mut [u8], buckets: usize)
+fn clear(s: &mut [u8], buckets: BucketCount)
     requires { ⌜ 16 * buckets ≤ length (now s) ⌝ }
     ensures { λ _. ⌜ ClearEnsures (now (s .entry)) (now (s .exit)) buckets ⌝ }
 {
@@ -46,7 +48,7 @@ fn clear(s: &mut [u8], buckets: usize)
 }
 
 // Makes the table anew, whatever the heads and nexts are.
-pub(crate) fn rebuild(s: &mut [u8], count: usize, buckets: usize)
+pub(crate) fn rebuild(s: &mut [u8], count: NodeCount, buckets: BucketCount)
     requires { ⌜ (16 * count ≤ length (now s)) × TableFits (now s) count buckets ⌝ }
     ensures { λ _. ⌜ RebuildEnsures (now (s .entry)) (now (s .exit)) count buckets ⌝ }
 {
@@ -60,7 +62,7 @@ pub(crate) fn rebuild(s: &mut [u8], count: usize, buckets: usize)
 
 // More buckets, where the nodes have become more than the buckets and the store has room. The answer is the number of
 // buckets.
-pub(crate) fn grow_table(s: &mut [u8], count: usize, buckets: usize) -> usize
+pub(crate) fn grow_table(s: &mut [u8], count: NodeCount, buckets: BucketCount) -> BucketCount
     requires { ⌜ TableSound (now s) count buckets ⌝ }
     ensures { λ r. ⌜ RebuildEnsures (now (s .entry)) (now (s .exit)) count r ⌝ }
 {

@@ -3,16 +3,20 @@ use crate::cache::Epoch;
 use crate::insert;
 use crate::node;
 use crate::node::Node;
+use crate::node::NodeCount;
 use crate::node::NodeNumber;
 use crate::table;
 ghost use Rattle.diagram.specs.Node.{NodeFits};
 ghost use Rattle.diagram.specs.Make.{StateSound, MakeEnsures};
 
+// How many buckets the unique table has.
+pub type BucketCount = usize;
+
 // What goes with the store: its nodes and buckets, and the epoch of the results that are remembered.
 pub struct State {
-    pub count: usize,
+    pub count: NodeCount,
     pub epoch: Epoch,
-    pub buckets: usize,
+    pub buckets: BucketCount,
 }
 
 // The node's number, and the state then; or there is no room for it.

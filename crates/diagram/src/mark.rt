@@ -1,6 +1,7 @@
 // Marks what the marked nodes lead to. Field 5 of a node's record holds its mark.
 use crate::fields;
 use crate::node;
+use crate::node::NodeCount;
 use crate::node::NodeNumber;
 use crate::registers::Register;
 use crate::registers::Registers;
@@ -25,7 +26,7 @@ pub(crate) fn mark(s: &mut [u8], c: NodeNumber)
 }
 
 // Marks the children of node n, if it is marked.
-fn mark_children(s: &mut [u8], count: usize, n: NodeNumber)
+fn mark_children(s: &mut [u8], count: NodeCount, n: NodeNumber)
     requires { ⌜ RecordWithin (now s) n × ((n ≤ count) × ChildrenWithin (now s) n) ⌝ }
     ensures { λ _. ⌜ MarkChildrenEnsures count (now (s .entry)) (now (s .exit)) n ⌝ }
 {
@@ -40,7 +41,7 @@ fn mark_children(s: &mut [u8], count: usize, n: NodeNumber)
 }
 
 // Marks what the marked nodes of 1 .. count lead to.
-fn spread(s: &mut [u8], count: usize)
+fn spread(s: &mut [u8], count: NodeCount)
     requires { ⌜ (16 * count ≤ length (now s)) × ChildrenBefore (nodeAt (now s)) count ⌝ }
     ensures { λ _. ⌜ SpreadEnsures (now (s .entry)) (now (s .exit)) count ⌝ }
 {
@@ -52,7 +53,7 @@ fn spread(s: &mut [u8], count: usize)
 }
 
 // Takes the marks off nodes 1 .. count.
-fn unmark(s: &mut [u8], count: usize)
+fn unmark(s: &mut [u8], count: NodeCount)
     requires { ⌜ 16 * count ≤ length (now s) ⌝ }
     ensures { λ _. ⌜ NoneMarked (now (s .entry)) (now (s .exit)) count ⌝ }
 {
@@ -74,7 +75,7 @@ fn root(s: &mut [u8], r: Register)
 }
 
 // Marks the nodes of the filled registers.
-fn roots(s: &mut [u8], count: usize, registers: Registers)
+fn roots(s: &mut [u8], count: NodeCount, registers: Registers)
     requires { ⌜ (16 * count ≤ length (now s)) × RegistersValid count (registers .all) ⌝ }
     ensures { λ _. ⌜ RootsEnsures count (registers .all) (now (s .entry)) (now (s .exit)) ⌝ }
 {
@@ -88,7 +89,7 @@ fn roots(s: &mut [u8], count: usize, registers: Registers)
 }
 
 // Marks what the filled registers lead to, and nothing else.
-pub(crate) fn reach(s: &mut [u8], count: usize, registers: Registers)
+pub(crate) fn reach(s: &mut [u8], count: NodeCount, registers: Registers)
     requires { ⌜ (16 * count ≤ length (now s)) × (ChildrenBefore (nodeAt (now s)) count × RegistersValid count
         (registers .all)) ⌝ }
     ensures { λ _. ⌜ ReachEnsures count (edgesOf (registers .all)) (now (s .entry)) (now (s .exit)) ⌝ }

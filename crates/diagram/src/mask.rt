@@ -1,17 +1,12 @@
 // A set of indices, as the bits of a number.
 use crate::node::Index;
+use crate::node::Mask;
 use crate::node::Weight;
 ghost use mathlib.Core.Path.{_≡_};
 ghost use Prim.Native.Nat.{_^_, _%_, _≤_, _<_};
 ghost use Rattle.field.specs.Field.{Represents};
 ghost use Rattle.diagram.specs.Tensor.{bits, members, power2};
 ghost use Rattle.diagram.specs.Mask.{MaskWithout, MaskFrom};
-
-// A set of indices: its bits are the members.
-pub type Mask = u64;
-
-// A value for each index: bit k is the value of index k.
-pub type Assignment = u64;
 
 // The number of the set that has k alone.
 fn power(k: Index) -> Mask

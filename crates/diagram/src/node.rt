@@ -9,7 +9,15 @@ pub type Weight = u64;
 // Nodes are numbered from 1; node 0 is the constant 1.
 pub type NodeNumber = usize;
 
+pub type NodeCount = usize;
+
 pub type Index = usize;
+
+// A set of indices: its bits are the members.
+pub type Mask = u64;
+
+// A value for each index: bit k is the value of index k.
+pub type Assignment = u64;
 
 // How many indices there are; in the place of an index it says that there is none.
 pub(crate) const INDICES: Index = 24;
@@ -51,7 +59,7 @@ pub(crate) fn same(x: Node, y: Node) -> bool
 }
 
 // The most nodes that the store holds.
-pub(crate) fn capacity(s: &[u8]) -> usize
+pub(crate) fn capacity(s: &[u8]) -> NodeCount
     ensures { λ r. ⌜ r ≡ capacityOf (now (s .entry)) ⌝ }
 {
     let n = s.len() / 16;

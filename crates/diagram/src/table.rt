@@ -1,7 +1,9 @@
 // The unique table: a hash table whose chains run through the records.
 use crate::fields;
+use crate::make::BucketCount;
 use crate::node;
 use crate::node::Node;
+use crate::node::NodeCount;
 use crate::node::NodeNumber;
 ghost use mathlib.Core.Path.{_≡_};
 ghost use Prim.Native.Nat.{_≤_, _<_};
@@ -10,7 +12,7 @@ ghost use Rattle.diagram.specs.Table.{hash as hashed, TableSound, FindEn
 
 // The bucket of a node. Nodes that are made one after the other lead to nodes with close numbers: small factors of
 // these keep their buckets close in the store. The buckets are a power of 2, so that every one is reached.
-pub(crate) fn hash(buckets: usize, x: Node) -> usize
+pub(crate) fn hash(buckets: BucketCount, x: Node) -> usize
     requires { ⌜ (1 ≤ buckets) × NodeFits x ⌝ }
     ensures { λ r. ⌜ (r ≡ hashed buckets x) × (r < buckets) ⌝ }
 {
@@ -23,7 +25,7 @@ pub(crate) fn hash(buckets: usize, x: Node) -> usize
 }
 
 // The number of the node x, or 0 where there is none.
-pub(crate) fn find(s: &[u8], count: usize, buckets: usize, x: Node) -> NodeNumber
+pub(crate) fn find(s: &[u8], count: NodeCount, buckets: BucketCount, x: Node) -> NodeNumber
     requires { ⌜ TableSound (now s) count buckets × NodeFits x ⌝ }
     ensures { λ r. ⌜ FindEnsures (nodeAt (now (s .entry))) count x r ⌝ }
 {

@@ -1,5 +1,6 @@
 // Building `unit` (document 01): 1 where input equals middle for each qubit below n, else 0.
 use crate::gate::Qubit;
+use crate::gate::QubitCount;
 use crate::join;
 use crate::join::Outcome;
 use crate::make::State;
@@ -28,7 +29,7 @@ fn onto(store: &mut [u8], s: State, q: Qubit, e: Edge) -> Outcome
 }
 
 // The qubits from q on.
-fn from(store: &mut [u8], s: State, q: Qubit, n: usize) -> Outcome
+fn from(store: &mut [u8], s: State, q: Qubit, n: QubitCount) -> Outcome
     requires { ⌜ Sound (now store) s × ((q ≤ n) × (n ≤ 8)) ⌝ }
     ensures { λ r. ⌜ Refines (now (store .entry)) (now (store .exit)) s (build (unitFrom {d = indices} q (n - q))) r ⌝ }
 {
@@ -41,7 +42,7 @@ fn from(store: &mut [u8], s: State, q: Qubit, n: usize) -> Outcome
     onto(store, t, q, e)
 }
 
-pub fn unit(store: &mut [u8], s: State, n: usize) -> Outcome
+pub fn unit(store: &mut [u8], s: State, n: QubitCount) -> Outcome
     requires { ⌜ Sound (now store) s × (n ≤ 8) ⌝ }
     ensures { λ r. ⌜ Refines (now (store .entry)) (now (store .exit)) s (build (unitTensor indices n)) r ⌝ }
 {

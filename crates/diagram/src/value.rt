@@ -2,7 +2,7 @@
 use crate::edge;
 use crate::make::State;
 use crate::mask;
-use crate::mask::Assignment;
+use crate::node::Assignment;
 use crate::node::Edge;
 use crate::node::Weight;
 ghost use Rattle.field.specs.Field.{Represents};

@@ -4,6 +4,7 @@ use diagram::join;
 use diagram::join::Outcome;
 use diagram::make::State;
 use diagram::node::Edge;
+use diagram::node::Weight;
 use diagram::restore;
 ghost use Prim.Native.Nat.{_+_, _<_};
 ghost use Rattle.diagram.specs.Weights.{modulus};
@@ -17,7 +18,7 @@ const BYTES: usize = 1048560;
 const SIDE: u64 = 256;
 
 // The node at index 23 with the values 1 and w.
-fn leaf(store: &mut [u8], s: State, w: u64) -> Outcome
+fn leaf(store: &mut [u8], s: State, w: Weight) -> Outcome
     requires { ⌜ Sound (now store) s × (w < modulus) ⌝ }
     ensures { λ r. ⌜ LeafEnsures (now (store .entry)) (now (store .exit)) s w r ⌝ }
 {
@@ -27,7 +28,7 @@ fn leaf(store: &mut [u8], s: State, w: u64) -> Outcome
 }
 
 // The node at index 22 over two of those.
-fn pair(store: &mut [u8], s: State, a: u64, b: u64) -> Outcome
+fn pair(store: &mut [u8], s: State, a: Weight, b: Weight) -> Outcome
     requires { ⌜ Sound (now store) s × ((a < modulus) × (b < modulus)) ⌝ }
     ensures { λ r. ⌜ PairEnsures (now (store .entry)) (now (store .exit)) s r ⌝ }
 {
@@ -41,7 +42,7 @@ fn pair(store: &mut [u8], s: State, a: u64, b: u64) -> Outcome
 }
 
 // The pairs of a.
-fn row(store: &mut [u8], cache: &mut [u64], s: State, a: u64) -> State
+fn row(store: &mut [u8], cache: &mut [u64], s: State, a: Weight) -> State
     requires { ⌜ FillInvariant (now cache) (now store) s × (a < modulus) ⌝ }
     ensures { λ r. ⌜ FillInvariant (now (cache .exit)) (now (store .exit)) r ⌝ }
 {
@@ -55,7 +56,7 @@ fn row(store: &mut [u8], cache: &mut [u64], s: State, a: u64) -> State
 }
 
 // A pair, or the nodes as they were where it does not fit.
-fn one(store: &mut [u8], cache: &mut [u64], s: State, a: u64, b: u64) -> State
+fn one(store: &mut [u8], cache: &mut [u64], s: State, a: Weight, b: Weight) -> State
     requires { ⌜ FillInvariant (now cache) (now store) s × ((a < modulus) × (b < modulus)) ⌝ }
     ensures { λ r. ⌜ FillInvariant (now (cache .exit)) (now (store .exit)) r ⌝ }
 {

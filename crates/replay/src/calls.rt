@@ -4,12 +4,16 @@ use diagram::collect;
 use diagram::contract;
 use diagram::depends;
 use diagram::gate::Gate;
+use diagram::gate::QubitCount;
 use diagram::join::Outcome;
 use diagram::lower;
 use diagram::make::State;
 use diagram::node::Edge;
+use diagram::node::Index;
+use diagram::node::Mask;
 use diagram::registers;
 use diagram::registers::RegisterContent;
+use diagram::registers::RegisterNumber;
 use diagram::registers::Registers;
 use diagram::restore;
 use diagram::unit;
@@ -40,7 +44,7 @@ fn refuse(store: &mut [u8], cache: &mut [u64], run: Run) -> Run
 }
 
 // Register d is a gate.
-pub fn gate(store: &mut [u8], cache: &mut [u64], run: Run, d: usize, g: Gate) -> Run
+pub fn gate(store: &mut [u8], cache: &mut [u64], run: Run, d: RegisterNumber, g: Gate) -> Run
     requires { ⌜ Invariant (now cache) (now store) (run .state) (run .registers .all) × (QubitsInRange g × (d < 16)) ⌝ }
     ensures { λ r. ⌜ Invariant (now (cache .exit)) (now (store .exit)) (r .state) (r .registers .all) ⌝ }
 {
@@ -56,10 +60,10 @@ fn multiply(
     store: &mut [u8],
     cache: &mut [u64],
     run: Run,
-    d: usize,
+    d: RegisterNumber,
     a: Edge,
     b: Edge,
-    m: u64,
+    m: Mask,
 ) -> Run
     requires { ⌜ Invariant (now cache) (now store) (run .state) (run .registers .all) ×
         (Valid (run .state .count) a × (Valid (run .state .count) b × ((d < 16) × (m < masks)))) ⌝ }
@@ -73,7 +77,7 @@ fn multiply(
 }
 
 // Register d is the product of registers 0 and 1, if they are filled.
-pub fn cont(store: &mut [u8], cache: &mut [u64], run: Run, d: usize, m: u64) -> Run
+pub fn cont(store: &mut [u8], cache: &mut [u64], run: Run, d: RegisterNumber, m: Mask) -> Run
     requires { ⌜ Invariant (now cache) (now store) (run .state) (run .registers .all) × ((d < 16) × (m < masks)) ⌝ }
     ensures { λ r. ⌜ Invariant (now (cache .exit)) (now (store .exit)) (r .state) (r .registers .all) ⌝ }
 {
@@ -101,7 +105,7 @@ pub fn tidy(store: &mut [u8], cache: &mut [u64], run: Run, collecting: bool) -> 
 }
 
 // Register 0 is the unit on n qubits.
-pub fn unit(store: &mut [u8], cache: &mut [u64], run: Run, n: usize) -> Run
+pub fn unit(store: &mut [u8], cache: &mut [u64], run: Run, n: QubitCount) -> Run
     requires { ⌜ Invariant (now cache) (now store) (run .state) (run .registers .all) × (n ≤ 8) ⌝ }
     ensures { λ r. ⌜ Invariant (now (cache .exit)) (now (store .exit)) (r .state) (r .registers .all) ⌝ }
 {
@@ -113,7 +117,7 @@ pub fn unit(store: &mut [u8], cache: &mut [u64], run: Run, n: usize) -> Run
 }
 
 // Register 0 is an edge's tensor with index k renamed k - 1.
-fn rename(store: &mut [u8], cache: &mut [u64], run: Run, a: Edge, k: usize) -> Run
+fn rename(store: &mut [u8], cache: &mut [u64], run: Run, a: Edge, k: Index) -> Run
     requires { ⌜ Invariant (now cache) (now store) (run .state) (run .registers .all) ×
         (Valid (run .state .count) a × LowerRequires (now store) (run .state) a k) ⌝ }
     ensures { λ r. ⌜ Invariant (now (cache .exit)) (now (store .exit)) (r .state) (r .registers .all) ⌝ }
@@ -126,7 +130,7 @@ fn rename(store: &mut [u8], cache: &mut [u64], run: Run, a: Edge, k: usize) -> R
 }
 
 // The same for what register 0 holds, where that does not depend on k - 1.
-pub fn low(store: &mut [u8], cache: &mut [u64], run: Run, k: usize) -> Run
+pub fn low(store: &mut [u8], cache: &mut [u64], run: Run, k: Index) -> Run
     requires { ⌜ Invariant (now cache) (now store) (run .state) (run .registers .all) × ((1 ≤ k) × (k ≤ 23)) ⌝ }
     ensures { λ r. ⌜ Invariant (now (cache .exit)) (now (store .exit)) (r .state) (r .registers .all) ⌝ }
 {

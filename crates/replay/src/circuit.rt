@@ -5,6 +5,9 @@ use crate::calls;
 use crate::calls::Run;
 use crate::show;
 use diagram::gate::Gate;
+use diagram::gate::Qubit;
+use diagram::node::Index;
+use diagram::node::Mask;
 use diagram::registers;
 use diagram::restore;
 ghost use Prim.Native.Nat.{_<_};
@@ -13,7 +16,7 @@ ghost use Rattle.diagram.specs.Entry.{QubitsInRange};
 ghost use Rattle.diagram.specs.Invariant.{Invariant};
 
 // The gate, contracted over the indices of m; register 1 has held it.
-fn contract_gate(store: &mut [u8], cache: &mut [u64], run: Run, g: Gate, m: u64) -> Run
+fn contract_gate(store: &mut [u8], cache: &mut [u64], run: Run, g: Gate, m: Mask) -> Run
     requires { ⌜ Invariant (now cache) (now store) (run .state) (run .registers .all)
         × (QubitsInRange g × (m < masks)) ⌝ }
     ensures { λ r. ⌜ Invariant (now (cache .exit)) (now (store .exit)) (r .state) (r .registers .all) ⌝ }
@@ -26,7 +29,7 @@ fn contract_gate(store: &mut [u8], cache: &mut [u64], run: Run, g: Gate, m: u64)
 }
 
 // A gate on one qubit, whose middle is the index j.
-fn single(store: &mut [u8], cache: &mut [u64], run: Run, g: Gate, j: usize, m: u64) -> Run
+fn single(store: &mut [u8], cache: &mut [u64], run: Run, g: Gate, j: Index, m: Mask) -> Run
     requires { ⌜ Invariant (now cache) (now store) (run .state) (run .registers .all)
         × (QubitsInRange g × ((j < 23) × (m < masks))) ⌝ }
     ensures { λ r. ⌜ Invariant (now (cache .exit)) (now (store .exit)) (r .state) (r .registers .all) ⌝ }
@@ -39,7 +42,7 @@ fn single(store: &mut [u8], cache: &mut [u64], run: Run, g: Gate, j: usize, m: u
 }
 
 // The second fresh index of a gate on two qubits becomes its middle k.
-fn second(store: &mut [u8], cache: &mut [u64], run: Run, k: usize) -> Run
+fn second(store: &mut [u8], cache: &mut [u64], run: Run, k: Index) -> Run
     requires { ⌜ Invariant (now cache) (now store) (run .state) (run .registers .all) × (k < 23) ⌝ }
     ensures { λ r. ⌜ Invariant (now (cache .exit)) (now (store .exit)) (r .state) (r .registers .all) ⌝ }
 {
@@ -50,7 +53,7 @@ fn second(store: &mut [u8], cache: &mut [u64], run: Run, k: usize) -> Run
 }
 
 // A gate on two qubits, whose lower middle is the index j.
-fn first(store: &mut [u8], cache: &mut [u64], run: Run, g: Gate, j: usize, m: u64) -> Run
+fn first(store: &mut [u8], cache: &mut [u64], run: Run, g: Gate, j: Index, m: Mask) -> Run
     requires { ⌜ Invariant (now cache) (now store) (run .state) (run .registers .all)
         × (QubitsInRange g × ((j < 23) × (m < masks))) ⌝ }
     ensures { λ r. ⌜ Invariant (now (cache .exit)) (now (store .exit)) (r .state) (r .registers .all) ⌝ }
@@ -60,7 +63,7 @@ fn first(store: &mut [u8], cache: &mut [u64], run: Run, g: Gate, j: usize, m: u6
 }
 
 // CX on neighbouring qubits q and q + 1.
-fn cx_to_next(store: &mut [u8], cache: &mut [u64], run: Run, q: usize) -> Run
+fn cx_to_next(store: &mut [u8], cache: &mut [u64], run: Run, q: Qubit) -> Run
     requires { ⌜ Invariant (now cache) (now store) (run .state) (run .registers .all) × (q < 7) ⌝ }
     ensures { λ r. ⌜ Invariant (now (cache .exit)) (now (store .exit)) (r .state) (r .registers .all) ⌝ }
 {
@@ -71,7 +74,7 @@ fn cx_to_next(store: &mut [u8], cache: &mut [u64], run: Run, q: usize) -> Run
 }
 
 // The middles of qubits q and q + 1, as a mask.
-fn pair(q: usize) -> u64
+fn pair(q: Qubit) -> Mask
     ensures { λ r. ⌜ r < masks ⌝ }
 {
     match q {

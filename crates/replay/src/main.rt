@@ -17,6 +17,7 @@ mod show;
 
 use calls::Run;
 use diagram::gate::Gate;
+use diagram::node::Mask;
 use diagram::registers;
 use diagram::restore;
 ghost use mathlib.Core.Path.{_≡_};
@@ -27,7 +28,7 @@ ghost use Rattle.diagram.specs.Entry.{QubitsInRange};
 ghost use Rattle.replay.specs.Replay.{cleared};
 
 // The index that is added over: the middle of qubit 0.
-const MIDDLE: u64 = 2;
+const MIDDLE: Mask = 2;
 
 // Two gates, and their product over the middle.
 fn product(store: &mut [u8], cache: &mut [u64], run: Run, g: Gate, h: Gate) -> Run

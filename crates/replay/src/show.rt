@@ -1,9 +1,11 @@
 // What is printed: a register's weight, node and four values; the count of the nodes.
 use crate::calls::Run;
 use diagram::make::State;
+use diagram::node::Assignment;
 use diagram::node::Edge;
 use diagram::registers;
 use diagram::registers::RegisterContent;
+use diagram::registers::RegisterNumber;
 use diagram::value;
 ghost use Prim.Native.Nat.{_<_};
 ghost use Rattle.diagram.specs.Meaning.{Valid};
@@ -16,7 +18,7 @@ fn number(before: &[u8], n: u64) {
 }
 
 // The value at assignment v.
-fn at(store: &[u8], s: State, e: Edge, v: u64)
+fn at(store: &[u8], s: State, e: Edge, v: Assignment)
     requires { ⌜ Sound (now store) s × Valid (s .count) e ⌝ }
 {
     let w = value::value(store, s, e, v);
@@ -38,7 +40,7 @@ fn line(store: &[u8], s: State, e: Edge)
 }
 
 // Register i, if it is filled.
-pub fn register(store: &[u8], run: Run, i: usize)
+pub fn register(store: &[u8], run: Run, i: RegisterNumber)
     requires { ⌜ Sound (now store) (run .state)
         × (RegistersValid (run .state .count) (run .registers .all) × (i < 16)) ⌝ }
 {

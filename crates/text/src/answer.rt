@@ -1,8 +1,8 @@
 // A session's answers, and their printed bytes.
 use crate::call::Refusal;
-use crate::limits::NodeCount;
 use crate::limits::Weight;
 use crate::print;
+use diagram::node::NodeCount;
 ghost use mathlib.Core.Path.{_≡_};
 ghost use Prim.Native.Nat.{_+_, _≤_, _<_};
 ghost use lib.ListN.{length};

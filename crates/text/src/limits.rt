@@ -1,17 +1,14 @@
 // What the numbers of a line are, and how large document 01 lets them be.
 use diagram::gate::Qubit;
+use diagram::gate::QubitCount;
 use diagram::node::Index;
 use diagram::registers::RegisterNumber;
-
-pub type QubitCount = usize;
 
 pub type Weight = usize;
 
 pub type Mask = usize;
 
 pub type Assignment = usize;
-
-pub type NodeCount = usize;
 
 pub type LineNumber = usize;
 

@@ -2,10 +2,10 @@
 use crate::answer;
 use crate::engine::Engine;
 use crate::limits::ANSWER_ROOM;
-use crate::limits::NodeCount;
 use crate::line;
 use crate::respond;
 use crate::split;
+use diagram::node::NodeCount;
 use diagram::registers::Registers;
 ghost use mathlib.Core.Path.{_≡_};
 ghost use Prim.Native.Nat.{_+_, _≤_, _<_};
