@@ -1,4 +1,5 @@
-/* What document 01 prints and marks, the edges of what may be lent, and every misuse that the checked calls reject. */
+/* What document 01 prints and marks, document 02's masks, the edges of what may be lent, and every misuse that the
+ * checked calls reject. */
 #include "jorehyi.h"
 
 #include <stdio.h>
@@ -103,6 +104,15 @@ static void the_marked_cases(void) {
     CHECK(judged("lines\t1\nT\t0\nT\t0\n=\nS\t0\n", STORE, "same\n"));
     CHECK(judged("lines\t1\nX\t0\nZ\t0\nX\t0\n=\nZ\t0\n", STORE, "factor\t65536\n"));
     CHECK(judged("lines\t1\nS\t0\n=\nZ\t0\n", STORE, "differ\n"));
+}
+
+/* ---- document 02 */
+
+static void masks(void) {
+    /* H on qubit 0 has indices 1 and 2; the unit has every qubit's input and middle */
+    CHECK(answers("put\t0\t7\non\t0\ngate\t0\tH\t0\non\t0\nunit\t1\t8\non\t1\n", STORE,
+                  "ok\t0\nm\t0\nok\t2\nm\t6\nok\t26\nm\t7190235\n"));
+    CHECK(answers("on\t0\t0\non\t16\non\t0\n", STORE, "no\t1\nno\t2\nno\t3\n"));
 }
 
 /* ---- the edges */
@@ -393,6 +403,7 @@ static void overlap_of_empty_ranges(void) {
 int main(void) {
     the_printed_session();
     the_marked_cases();
+    masks();
     empty_text();
     nothing_lent_at_all();
     session_output();

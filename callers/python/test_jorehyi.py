@@ -1,4 +1,5 @@
-"""What document 01 prints and marks, the edges of what may be lent, and every misuse that the module rejects."""
+"""What document 01 prints and marks, document 02's masks, the edges of what may be lent, and every misuse that the
+module rejects."""
 
 import ctypes
 import doctest
@@ -40,6 +41,12 @@ class Document(unittest.TestCase):
         self.assertEqual(judge(b"lines\t1\nT\t0\nT\t0\n=\nS\t0\n"), Answer("same"))
         self.assertEqual(judge(b"lines\t1\nX\t0\nZ\t0\nX\t0\n=\nZ\t0\n"), Answer("factor", factor=65536))
         self.assertEqual(judge(b"lines\t1\nS\t0\n=\nZ\t0\n"), Answer("differ"))
+
+    def test_masks(self):
+        # H on qubit 0 has indices 1 and 2; the unit has every qubit's input and middle.
+        text = b"put\t0\t7\non\t0\ngate\t0\tH\t0\non\t0\nunit\t1\t8\non\t1\n"
+        self.assertEqual(session(text).output, b"ok\t0\nm\t0\nok\t2\nm\t6\nok\t26\nm\t7190235\n")
+        self.assertEqual(session(b"on\t0\t0\non\t16\non\t0\n").output, b"no\t1\nno\t2\nno\t3\n")
 
 
 class Edges(unittest.TestCase):

@@ -81,6 +81,12 @@ pub enum Answer {
 }
 
 /// Answers the lines of a session, from no nodes and empty registers.
+///
+/// ```
+/// let (mut store, mut out) = ([0; 32], [0; 64]);
+/// let result = jorehyi::session(b"gate\t0\tH\t0\non\t0\n", &mut store, &mut [], &mut out);
+/// assert_eq!(&out[..result.bytes as usize], b"ok\t2\nm\t6\n");
+/// ```
 pub fn session(text: &[u8], store: &mut [u8], cache: &mut [u64], out: &mut [u8]) -> Session {
     let words = raw::session(text, store, cache, out);
     Session {

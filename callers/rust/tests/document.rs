@@ -1,4 +1,4 @@
-//! What document 01 prints and marks: the session shown whole, and the cases d to k.
+//! What document 01 prints and marks: the session shown whole, and the cases d to k. Document 02's masks.
 
 use jorehyi::{judge, session, Answer, Edge};
 
@@ -61,4 +61,14 @@ fn the_marked_verdicts() {
         Answer::Factor(65_536)
     );
     assert_eq!(judge(b"lines\t1\nS\t0\n=\nZ\t0\n", 2048), Answer::Differ);
+}
+
+/// H on qubit 0 has indices 1 and 2; the unit has every qubit's input and middle.
+#[test]
+fn masks() {
+    let text = b"put\t0\t7\non\t0\ngate\t0\tH\t0\non\t0\nunit\t1\t8\non\t1\n";
+    let expected = b"ok\t0\nm\t0\nok\t2\nm\t6\nok\t26\nm\t7190235\n";
+    assert_eq!(answers(text, 2048), expected);
+    let refused = b"on\t0\t0\non\t16\non\t0\n";
+    assert_eq!(answers(refused, 2048), b"no\t1\nno\t2\nno\t3\n");
 }

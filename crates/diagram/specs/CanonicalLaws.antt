@@ -65,6 +65,7 @@ module _ {d m : ℕ} {ts us : Set d} {x : Node} (p : m ≤ length ts) (h : Norma
         from-high = rw high (h .from-high);
         differ = rw (low, high) (h .differ);
         one = rw node-tensor-kept (h .one);
+        mask = rw node-tensor-kept (h .mask);
       }
 
 -- building a canonical list

@@ -29,6 +29,7 @@ renumberNode g x =
       low = record { weight = x .low .weight; node = g (x .low .node) };
       high = record
           { weight = x .high .weight; node = g (x .high .node) };
+      mask = x .mask;
     }
 
 -- the marked nodes of 1 .. m, renumbered

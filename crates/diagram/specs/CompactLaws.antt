@@ -111,6 +111,7 @@ module _ (a : ℕ → ℕ) (f : ℕ → Node) (count : ℕ) (s : List ℕ) (m k 
           low = record
               { weight = f (suc m) .low .weight; node = u };
           high = record { weight = f (suc m) .high .weight; node = v };
+          mask = f (suc m) .mask;
         })
         (child _ (closed .low (suc m) (omega arith) (omega arith) alive))
         (child _ (closed .high (suc m) (omega arith) (omega arith) alive)))
@@ -172,6 +173,7 @@ pub shift-by : (s : List ℕ) (n k : ℕ) {x : Node} {u v : ℕ} {s₁ s₂ : Li
       low = record { weight = x .low .weight; node = u };
       high = record
           { weight = x .high .weight; node = v };
+      mask = x .mask;
     })
     → s₂ ≡ putField s₁ 5 (n - 1) k
     → (s₂ ≡ shiftNode n k s) × NodeFits (renumberNode (forward s) (nodeAt s n))
@@ -183,6 +185,7 @@ shift-by s n k {x} {u} {v} p h q hu r hv t₁ t₂ =
       low = record { weight = x .low .weight; node = a };
       high = record
           { weight = x .high .weight; node = b };
+      mask = x .mask;
     } in
     let e : made u v ≡ renumberNode (forward s) (nodeAt s n) = rw (← p) (ap₂ made q r) in
     (t₂ ∙ ap (λ (l : List ℕ). putField l 5 (n - 1) k) (t₁ ∙ ap (putNode s k) e), subst NodeFits e (omega arith))

@@ -134,6 +134,7 @@ module _ (d : ℕ) (f : ℕ → Node) (count : ℕ) (a : ℕ → ℕ) (canonical
       from-high = rw high-moved (in-form .from-high);
       differ = rw (low-moved, high-moved) (in-form .differ);
       one = rw tensor-moved (in-form .one);
+      mask = rw tensor-moved (in-form .mask);
     }
 
     new : (n : ℕ) → n ≤ length (survivors a f m) → tensorAt us n ≢ nodeTensor us x'

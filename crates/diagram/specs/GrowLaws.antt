@@ -2,7 +2,8 @@
 use mathlib.Core.Path.{_≡_, refl, ap, ap₂, sym, _∙_}
 use mathlib.Core.Bool.{Bool, true, false, _&&_, not}
 use Prim.Native.Nat.{ℕ, zero, suc, _*_, _≤_, _<_}
-use native.Mathlib.Nat.{not-suc-le-zero, le-of-suc-le-suc}
+use native.Mathlib.Omega.{arith}
+use native.Mathlib.Nat.{not-suc-le-zero, le-of-suc-le-suc, pow-le-pow-right}
 use Rattle.field.specs.Weight.{Weight, sameW, inverseW}
 use Rattle.diagram.specs.Tensor.{indices, indices-count, Tensor, weight, split, branch, Bits, tail, bits, at}
 use Rattle.diagram.specs.Tensor.{value, same, constant, isZero, scale, plus, times, first, top, lowerTop}
@@ -17,6 +18,8 @@ use Rattle.diagram.specs.Tabulate.{cons, tabulate, Sees}
 use Rattle.diagram.specs.TabulateLaws.{sees-cons}
 use Rattle.diagram.specs.Gate.{entry, gateTensor, unitEntry, unitTensor, GateBelow}
 use Rattle.diagram.specs.GateLaws.{gate-sees, unit-sees}
+use Rattle.diagram.specs.Support.{supportMask}
+use Rattle.diagram.specs.SupportLaws.{support-below, support-bits, support-is}
 use Rattle.diagram.specs.Grow.{grow, deeper}
 use Rattle.diagram.specs.declared.gate.Gate.{Gate}
 
@@ -98,6 +101,16 @@ module _ (m : ℕ) where
   pub grow-depends : {d : ℕ} (k : ℕ) (A : Tensor d) → depends k (grow m A) ≡ depends k A
   unfolding depends
   grow-depends k A = rw (grow-fix k false A, grow-fix k true A) (ap not (grow-same (fix k false A) (fix k true A)))
+
+  deeper-more : (d : ℕ) → d ≤ deeper d m
+  deeper-more zero = omega arith
+  deeper-more (suc d) = omega (arith, deeper-more d)
+
+  pub grow-support : {d : ℕ} (A : Tensor d) → supportMask (grow m A) ≡ supportMask A
+  grow-support {d} A =
+      support-is (grow m A) (supportMask A)
+      (omega (arith, support-below A, pow-le-pow-right {n = 2} (omega arith) {i = d} {j = deeper d m} (deeper-more d)))
+      (λ k. support-bits A k ∙ sym (grow-depends k A))
 
   pub grow-at : {d : ℕ} (A : Tensor d) (f : Bits) → at (grow m A) f ≡ at A f
   unfolding at grow

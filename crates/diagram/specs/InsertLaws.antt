@@ -82,7 +82,7 @@ module _ (k m : ℕ) (s : List ℕ) (t : TableSound s m k) (w : RecordWithin s (
       nexts n p q (no d) = next-old n p (omega arith) ∙ t .nexts n p (omega arith)
 
 -- Only the heads, and of 1 .. count the nodes and their nexts, matter.
-pub table-ext : (s s' : List ℕ) (m k : ℕ) → length s' ≡ length s → field s' 4 ≡ field s 4 → field s' 5 ≡ field s 5
+table-ext : (s s' : List ℕ) (m k : ℕ) → length s' ≡ length s → field s' 4 ≡ field s 4 → field s' 5 ≡ field s 5
     → ((n : ℕ) → 1 ≤ n → n ≤ m → nodeAt s' n ≡ nodeAt s n) → TableSound s m k → TableSound s' m k
 unfolding hashOf
 table-ext s s' m k len heads nexts same t =

@@ -6,17 +6,15 @@ use mathlib.Core.Option.{none, some}
 use Prim.Native.Nat.{ℕ, _-_, _≤_, _<_}
 use native.Mathlib.Omega.{arith}
 use lib.ListN.{getD, set}
-use Rattle.diagram.specs.Tensor.{indices}
+use Rattle.diagram.specs.Tensor.{indices, depends}
 use Rattle.diagram.specs.Tally.{Set, Step}
 use Rattle.diagram.specs.Meaning.{edgeIn, tensors, appendTensors, Valid}
 use Rattle.diagram.specs.TopFreeLaws.{depends-free}
 use Rattle.diagram.specs.Top.{Free}
 use Rattle.diagram.specs.Lower.{LowerRequires}
-use Rattle.diagram.specs.Node.{SameRecords}
-use Rattle.diagram.specs.Depends.{DependsEnsures}
 use Rattle.diagram.specs.Sets.{PrefixOf}
 use Rattle.diagram.specs.Store.{nodesOf, setOf, tensorOf, RefinesEdge, Refines}
-use Rattle.diagram.specs.StoreLaws.{set-length, same-records-tensor, same-records-prefix, same-records-sound}
+use Rattle.diagram.specs.StoreLaws.{set-length}
 use Rattle.diagram.specs.StoreLaws.{refines-edge, refines-full, refines-count, sets-prefix}
 use Rattle.diagram.specs.Cache.{Remembers}
 use Rattle.diagram.specs.CacheLaws.{remembers-nothing, remembers-more}
@@ -146,28 +144,13 @@ holds-read ts {rs} {i} {h} r =
     go true = refl
     go false = refl
 
--- whether a tensor depends on an index is found without touching nodes
-
-pub invariant-same-records : {c s s' : List ℕ} {st : State} {rs : List Register} → Invariant c s st rs
-    → SameRecords s s' → Invariant c s' st rs
-invariant-same-records {s = s} {s' = s'} {st = st} p a = record {
-  sound = same-records-sound a (p .sound);
-  cache = remembers-more s s' st st (same-records-prefix st a) refl (omega arith) (p .cache);
-  registers = p .registers;
-}
-
 -- k may be renamed k - 1 in an edge that does not depend on j, which is k - 1
-pub lower-allowed : {s s' : List ℕ} {st : State} {e : Edge} {j k : ℕ} {r : Bool} → DependsEnsures s s' st e j r
+pub lower-allowed : {s : List ℕ} {st : State} {e : Edge} {j k : ℕ} {r : Bool} → r ≡ depends j (tensorOf s st e)
     → r ≡ false → j ≡ k - 1 → 1 ≤ k → k ≤ 23
-    → LowerRequires s' st e k
-lower-allowed {s' = s'} {st} {e} {j} d q m first last =
-    let free : Free j (tensorOf s' st e) = rw (same-records-tensor st e (d .alike)) (depends-free j _ (sym (d .is) ∙ q))
-    in
+    → LowerRequires s st e k
+lower-allowed {s} {st} {e} {j} d q m first last =
+    let free : Free j (tensorOf s st e) = depends-free j _ (sym d ∙ q) in
     record { first = first; last = last; free = rw m at free }
-
-pub invariant-depends : {c s s' : List ℕ} {st : State} {rs : List Register} {e : Edge} {j : ℕ} {r : Bool}
-    → Invariant c s st rs → DependsEnsures s s' st e j r → Invariant c s' st rs
-invariant-depends p d = invariant-same-records p (d .alike)
 
 -- the registers hold what they held, where nodes were put in
 pub holds-after : (s s' : List ℕ) (st t : State) {rs : List Register} → RegistersValid (st .count) rs

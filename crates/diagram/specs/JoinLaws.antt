@@ -4,12 +4,14 @@ use mathlib.Core.Logic.{_≢_, _⊎_, inl, inr}
 use mathlib.Core.Bool.{true, false, cond, Bool}
 use mathlib.Core.List.{List, [], _∷_, _++_}
 use mathlib.Core.Option.{some}
-use Prim.Native.Nat.{ℕ, zero, suc, _≤_, _<_}
+use Prim.Native.Nat.{ℕ, zero, suc, _^_, _≤_, _<_}
 use native.Mathlib.Omega.{arith}
+use lib.Bits.{bitOr, or-lt}
 use lib.ListN.{length, length-append}
 use Rattle.field.specs.Weight.{modulus, toWeight, 1W, timesW, inverseW, Nonzero}
 use Rattle.field.specs.RingLaws.{weight-injective, nonzero-weight, weight-one}
 use Rattle.diagram.specs.Tensor.{same, isZero, scale, first, top, fix, joined, normal, indices, indices-count}
+use Rattle.diagram.specs.Tensor.{indexCount, masks}
 use Rattle.diagram.specs.TensorLaws.{scale-scale, scale-one, joined-scale, same-eq, eq-same}
 use Rattle.diagram.specs.TopLaws.{top-constant}
 use Rattle.diagram.specs.Top.{FreeBelow}
@@ -34,7 +36,10 @@ use Rattle.diagram.specs.Make.{MakeAt, MakeEnsures, FoundOrAdded, old, n
 use Rattle.diagram.specs.MakeLaws.{make-at, make-full}
 use Rattle.diagram.specs.Store.{nodesOf, setOf, tensorOf, Sound, RefinesEdge, RefinesFull}
 use Rattle.diagram.specs.StoreLaws.{nodes-length, node-at, refines-stays}
-use Rattle.diagram.specs.Join.{JoinRequires}
+use Rattle.diagram.specs.Join.{JoinRequires, NodeMaskEnsures}
+use Rattle.diagram.specs.Support.{supportMask}
+use Rattle.diagram.specs.SupportLaws.{support-joined, support-scale}
+use Rattle.diagram.specs.MaskBitsLaws.{power-less}
 use Rattle.diagram.specs.TestLaws.{cases, no-some}
 use Rattle.diagram.specs.declared.node.Node.{Node}
 use Rattle.diagram.specs.declared.node.Edge.{Edge}
@@ -60,6 +65,7 @@ module _ (d : ℕ) (xs : List Node) (c : Canonical d xs) where
       (sym (normal-node-low h) ∙ ap₂ (λ k T. fix k false T) i e ∙ normal-node-low g))
       (canonical-edge-unique d xs c (valid-more _ p (h .high)) (valid-more _ q (g .high))
       (sym (normal-node-high h) ∙ ap₂ (λ k T. fix k true T) i e ∙ normal-node-high g))
+      (h .mask ∙ ap supportMask e ∙ sym (g .mask))
     where
       some-same : {m n : ℕ} → some m ≡ some n → m ≡ n
       some-same e = cc
@@ -73,11 +79,12 @@ module _ (d : ℕ) (xs : List Node) (c : Canonical d xs) where
       a (suc n) (omega arith) p (normal-node-unique {n = length xs} _ x (omega arith) (omega arith) g h
       (sym (c .meaning (suc n) (omega arith) p) ∙ e))
 
-  -- w times x is l and h joined at k
-  module _ (k : ℕ) (l h : Edge) (w : ℕ) (x : Node) (inside : k < d) (vl : Valid (length xs) l)
+  -- w times x is l and h joined at k, and the mask is that of the parts
+  module _ (k : ℕ) (l h : Edge) (mask w : ℕ) (x : Node) (inside : k < d) (vl : Valid (length xs) l)
       (vh : Valid (length xs) h)
       (fl : FreeBelow (suc k) (edgeIn ts l)) (fh : FreeBelow (suc k) (edgeIn ts h)) (ne : l ≢ h)
-      (z : NormaliseEnsures k l h w x) where
+      (z : NormaliseEnsures k l h mask w x)
+      (is : mask ≡ bitOr (2 ^ k) (bitOr (supportMask (edgeIn ts l)) (supportMask (edgeIn ts h)))) where
     nonzero : Nonzero (toWeight w)
     nonzero = nonzero-weight w (z .small) (z .nonzero)
 
@@ -134,6 +141,11 @@ module _ (d : ℕ) (xs : List Node) (c : Canonical d xs) where
     unfolding nodeTensor
     first-node = rw (z .index) (first-joined k _ _ inside (low .from) (high .from) ∙ leads (z .leading))
 
+    node-mask : x .mask ≡ supportMask (nodeTensor ts x)
+    node-mask =
+        z .same-mask ∙ is ∙ sym (support-joined k _ _ inside fl fh differ) ∙ ap supportMask scaled
+        ∙ support-scale (toWeight w) (nodeTensor ts x) nonzero
+
     in-form : NormalNode ts (length xs) x
     in-form =
         record {
@@ -144,6 +156,7 @@ module _ (d : ℕ) (xs : List Node) (c : Canonical d xs) where
           from-high = rw (z .index) (high .from);
           differ = sym (same-scale (toWeight w) _ _ nonzero) ∙ rw (low .scaled, high .scaled) differ;
           one = first-node;
+          mask = node-mask;
         }
 
     normal-is : normal (joined k (edgeIn ts l) (edgeIn ts h)) ≡ nodeTensor ts x
@@ -179,6 +192,17 @@ module _ (d : ℕ) (xs : List Node) (c : Canonical d xs) where
       pub join-canonical : Canonical d (xs ++ (x ∷ []))
       join-canonical = canonical-more d xs x c in-form (normal-node-new x in-form a)
 
+-- the mask made from the masks of the parts
+pub node-mask-ensures : {s : List ℕ} {st : State} {k : ℕ} {l h : Edge} {own low high : ℕ} → k < indexCount
+    → own ≡ 2 ^ k
+    → (low ≡ supportMask (tensorOf s st l)) × (low < masks) → (high ≡ supportMask (tensorOf s st h)) × (high < masks)
+    → NodeMaskEnsures s st k l h (bitOr own (bitOr low high))
+node-mask-ensures {k = k} {low = low} {high} p o m n =
+    record {
+      is = rw (o, m .0, n .0);
+      small = rw o (or-lt 24 _ _ (power-less k 24 p) (or-lt 24 low high (m .1) (n .1)));
+    }
+
 module _ {s : List ℕ} {st : State} {k : ℕ} {l h : Edge} (held : Sound s st) (j : JoinRequires s st k l h) (b : Bool)
     (told : Decides (l ≡ h) b) where
   -- the step that is done
@@ -193,18 +217,19 @@ module _ {s : List ℕ} {st : State} {k : ℕ} {l h : Edge} (held : Sound s st) 
     ne : l ≢ h
     ne = decides-false b told differ
 
-    pub normalise-allowed : NormaliseRequires k l h
-    normalise-allowed =
+    pub normalise-allowed : {mask : ℕ} → NodeMaskEnsures s st k l h mask → NormaliseRequires k l h mask
+    normalise-allowed m =
         record {
           index = omega (arith, j .inside);
           low-small = j .low .small;
           high-small = j .high .small;
           low-node = omega (arith, j .low .within, held .stored .numbered);
           high-node = omega (arith, j .high .within, held .stored .numbered);
+          mask-small = m .small;
           either = λ a b. ne (edge-eq (a ∙ sym b) (j .low .zero a ∙ sym (j .high .zero b)));
         }
 
-    module _ {w : ℕ} {x : Node} (z : NormaliseEnsures k l h w x) where
+    module _ {mask w : ℕ} {x : Node} (m : NodeMaskEnsures s st k l h mask) (z : NormaliseEnsures k l h mask w x) where
       abbrev xs : List Node
       xs = nodesOf s st
 
@@ -226,6 +251,10 @@ module _ {s : List ℕ} {st : State} {k : ℕ} {l h : Edge} (held : Sound s st) 
       fh : FreeBelow (suc k) (edgeIn (tensors indices xs) h)
       fh = unfold tensorOf setOf in j .from-high
 
+      mask-is : mask ≡ bitOr (2 ^ k)
+          (bitOr (supportMask (edgeIn (tensors indices xs) l)) (supportMask (edgeIn (tensors indices xs) h)))
+      mask-is = unfold tensorOf setOf in m .is
+
       missing : Absent (nodeAt s) (st .count) x → (n : ℕ) → 1 ≤ n → n ≤ length xs → nodeIn indices xs n ≢ x
       missing a n p q e =
           let q' : n ≤ st .count = omega (arith, q, len) in a .not n p q' (sym (node-at indices s st n p q') ∙ e)
@@ -242,22 +271,23 @@ module _ {s : List ℕ} {st : State} {k : ℕ} {l h : Edge} (held : Sound s st) 
           record {
             canonical = held .nodes;
             grown = prefix-refl _;
-            is = join-old indices xs (held .nodes) k l h w x inside vl vh fl fh ne z n p q e;
+            is = join-old indices xs (held .nodes) k l h mask w x inside vl vh fl fh ne z mask-is n p q e;
           }
 
       more : Absent (nodeAt s) (st .count) x → After (xs ++ (x ∷ [])) (suc (length xs))
       unfolding tensorOf setOf
       more a =
           record {
-            canonical = join-canonical indices xs (held .nodes) k l h w x inside vl vh fl fh ne z (missing a);
+            canonical =
+                join-canonical indices xs (held .nodes) k l h mask w x inside vl vh fl fh ne z mask-is (missing a);
             grown = record { more = x ∷ []; is = refl };
-            is = join-more indices xs (held .nodes) k l h w x inside vl vh fl fh ne z (missing a);
+            is = join-more indices xs (held .nodes) k l h mask w x inside vl vh fl fh ne z mask-is (missing a);
           }
 
-      module _ {s' : List ℕ} (r : Slot) (m : MakeEnsures s s' st x r) where
+      module _ {s' : List ℕ} (r : Slot) (made : MakeEnsures s s' st x r) where
         pub join-full : r ≡ Full → RefinesFull s s' st (join k (tensorOf s st l) (tensorOf s st h))
         join-full e =
-            let n = make-full r m e in
+            let n = make-full r made e in
             rw (n .same) record {
               long = refl;
               kept = refl;
@@ -271,7 +301,7 @@ module _ {s : List ℕ} {st : State} {k : ℕ} {l h : Edge} (held : Sound s st) 
         join-made {n} {st'} e = go (at .entered)
           where
             at : MakeAt s s' st st' x n
-            at = make-at r m e
+            at = make-at r made e
 
             done : (ys : List Node) → nodesOf s' st' ≡ ys → After ys n
                 → RefinesEdge s s' st st' does (record { weight = w; node = n })

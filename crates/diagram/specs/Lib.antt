@@ -1,6 +1,6 @@
 -- The definitions and laws of diagrams.
 
--- What a reader must believe: document 01's tensors, tally, gates and comparison
+-- What a reader must believe: document 01's tensors, tally, gates and comparison, document 02's masks
 pub mod Weights
 pub mod Tensor
 pub mod Descend
@@ -8,6 +8,7 @@ pub mod Tally
 pub mod Tabulate
 pub mod Gate
 pub mod Compare
+pub mod Support
 -- What nodes and registers mean, what the store's bytes are, what holds between two calls
 pub mod Fields
 pub mod Node
@@ -26,7 +27,6 @@ pub mod Normalise
 pub mod Join
 pub mod Edge
 pub mod Value
-pub mod Depends
 pub mod Restore
 pub mod Entry
 pub mod Build
@@ -58,6 +58,7 @@ pub mod TensorScaleLaws
 pub mod SumOverLaws
 pub mod TabulateLaws
 pub mod BuildFixBelowLaws
+pub mod SupportLaws
 -- Laws of the tally's steps
 pub mod SetsLaws
 pub mod SetsNormalLaws
@@ -86,11 +87,11 @@ pub mod MakeLaws
 pub mod MeaningLaws
 pub mod CanonicalLaws
 pub mod StoreLaws
+pub mod SupportStoreLaws
 pub mod NormaliseLaws
 pub mod JoinLaws
 pub mod EdgeLaws
 pub mod ValueLaws
-pub mod DependsLaws
 pub mod RestoreLaws
 -- Laws of gates and `unit` in the store
 pub mod EntryLaws
@@ -99,6 +100,7 @@ pub mod UnitLaws
 -- Laws of the cache and the operations
 pub mod CacheLaws
 pub mod MaskLaws
+pub mod MaskBitsLaws
 pub mod OperationLaws
 pub mod OperationHalvesLaws
 pub mod SumLaws

@@ -4,11 +4,9 @@ use mathlib.Core.Logic.{_≢_}
 use mathlib.Core.List.{List}
 use Prim.Native.Nat.{ℕ, _+_, _≤_}
 use native.Mathlib.Omega.{arith}
-use Rattle.diagram.specs.Node.{capacity, nodeAt, SameRecords}
-use Rattle.diagram.specs.NodeLaws.{same-records-node}
+use Rattle.diagram.specs.Node.{capacity, nodeAt}
 use Rattle.diagram.specs.Table.{TableSound, FindEnsures}
 use Rattle.diagram.specs.Insert.{AppendEnsures, RebuildEnsures}
-use Rattle.diagram.specs.InsertLaws.{table-ext}
 use Rattle.diagram.specs.Make.{old, MakeFull, MakeEnsures, MakeAt, new, StateSound}
 use Rattle.diagram.specs.declared.node.Node.{Node}
 use Rattle.diagram.specs.declared.make.State.{State}
@@ -21,16 +19,6 @@ state-sound-table t e p = t .table (omega arith)
 
 pub state-sound-of : {s : List ℕ} {st : State} → TableSound s (st .count) (st .buckets) → StateSound s st
 state-sound-of t = record { room = t .room; numbered = t .numbered; table = λ _. t }
-
-pub same-records-state : {s s' : List ℕ} {st : State} → SameRecords s s' → StateSound s st → StateSound s' st
-same-records-state {s} {s'} {st} a r =
-    record {
-      room = rw (a .long) (r .room);
-      numbered = r .numbered;
-      table = λ p. table-ext s s' (st .count) (st .buckets) (a .long) (a .fields 4 (omega arith))
-          (a .fields 5 (omega arith))
-          (λ n u v. rw (same-records-node a) refl) (r .table (rw (a .long) at p));
-    }
 
 pub make-at : {s s' : List ℕ} {st : State} {x : Node} {n : ℕ} {st' : State} (r : Slot) → MakeEnsures s s' st x r
     → r ≡ At n st' → MakeAt s s' st st' x n

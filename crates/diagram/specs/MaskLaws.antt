@@ -52,7 +52,7 @@ bits-absent k m e = sym (assign-same k (bits m) false e)
 mod-step : (k m : ℕ) → m % 2 ^ suc k ≡ (m / 2 ^ k % 2) * 2 ^ k + m % 2 ^ k
 mod-step k m = ap (λ x. m % 2 ^ x) (sym (one-add k)) ∙ mod-pow-add m 1 k
 
-power-pos : (k : ℕ) → 0 < 2 ^ k
+pub power-pos : (k : ℕ) → 0 < 2 ^ k
 power-pos zero = omega arith
 power-pos (suc k) = omega (arith, power-pos k, pow-succ' 2 k)
 

@@ -38,7 +38,8 @@ pub record Valid (m : ℕ) (e : Edge) : Type 0 where
 
 -- node n of a list; in the place of node 0 a node whose index is d, which no node has
 unfoldable pub noNode : ℕ → Node
-noNode d = record { index = d; low = record { weight = 0; node = 0 }; high = record { weight = 0; node = 0 } }
+noNode d =
+    record { index = d; low = record { weight = 0; node = 0 }; high = record { weight = 0; node = 0 }; mask = 0 }
 
 unfoldable pub nodeIn : ℕ → List Node → ℕ → Node
 nodeIn d xs n = getD (noNode d ∷ xs) n (noNode d)

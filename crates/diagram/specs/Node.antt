@@ -3,8 +3,7 @@
 --   field 0   index + 256 · low weight + 512 · (high weight / 65536)
 --   field 1   low node             field 2   high weight % 65536          field 3   high node
 --   field 4   the unique table's head of bucket n - 1                     field 5   the next node of n's chain
---   field 6   a flag that `depends` sets while it runs                     field 7   free
-use mathlib.Core.Path.{_≡_}
+--   field 6   mask % 65536         field 7   mask / 65536
 use mathlib.Core.List.{List, [], _∷_, _++_}
 use mathlib.Core.Bool.{Bool, true, false}
 use Prim.Native.Nat.{ℕ, _+_, _*_, _/_, _%_, _≤_, _<_, _-_, min, zero, suc}
@@ -19,6 +18,7 @@ pub record NodeFits (x : Node) : Type 0 where
   pub low-node-fits : x .low .node < 65536
   pub high-weight-fits : x .high .weight < 131072
   pub high-node-fits : x .high .node < 65536
+  pub mask-fits : x .mask < 4294967296
 
 -- "Capacity is the lent store's bytes divided by 16, rounded down, at most 65,535; it may be 0."
 abbrev pub capacity : List ℕ → ℕ
@@ -29,19 +29,22 @@ pub record RecordWithin (s : List ℕ) (n : ℕ) : Type 0 where
   pub first : 1 ≤ n
   pub last : 16 * n ≤ length s
 
--- the node of its four fields
-unfoldable pub decode : ℕ → ℕ → ℕ → ℕ → Node
-decode a b c d =
+-- the node of its six fields
+unfoldable pub decode : ℕ → ℕ → ℕ → ℕ → ℕ → ℕ → Node
+decode a b c d e f =
     record {
       index = a % 256;
       low = record { weight = a / 256 % 2; node = b };
       high = record
           { weight = c + 65536 * (a / 512 % 2); node = d };
+      mask = e + 65536 * f;
     }
 
 -- node n
 unfoldable pub nodeAt : List ℕ → ℕ → Node
-nodeAt s n = decode (field s 0 (n - 1)) (field s 1 (n - 1)) (field s 2 (n - 1)) (field s 3 (n - 1))
+nodeAt s n =
+    decode (field s 0 (n - 1)) (field s 1 (n - 1)) (field s 2 (n - 1)) (field s 3 (n - 1)) (field s 6 (n - 1))
+    (field s 7 (n - 1))
 
 -- field 0 of a node
 abbrev pub packedField : Node → ℕ
@@ -50,8 +53,9 @@ packedField x = x .index + 256 * x .low .weight + 512 * (x .high .weight / 65536
 -- the store with x for its node n
 unfoldable pub putNode : List ℕ → ℕ → Node → List ℕ
 putNode s n x =
-    putField (putField (putField (putField s 0 (n - 1) (packedField x)) 1 (n - 1) (x .low .node)) 2 (n - 1)
-    (x .high .weight % 65536)) 3 (n - 1) (x .high .node)
+    putField (putField (putField (putField (putField (putField s 0 (n - 1) (packedField x)) 1 (n - 1) (x .low .node)) 2
+    (n - 1) (x .high .weight % 65536)) 3 (n - 1) (x .high .node)) 6 (n - 1) (x .mask % 65536)) 7 (n - 1)
+    (x .mask / 65536)
 
 -- the unique table's fields
 
@@ -60,11 +64,6 @@ headAt s b = field s 4 b
 
 abbrev pub nextAt : List ℕ → ℕ → ℕ
 nextAt s n = field s 5 (n - 1)
-
--- The stores differ in fields 6 and 7 alone, in which neither the nodes nor the table are.
-pub record SameRecords (s s' : List ℕ) : Type 0 where
-  pub long : length s' ≡ length s
-  pub fields : (f : ℕ) → f < 6 → field s' f ≡ field s f
 
 -- the answer to "is it so that P?"
 abbrev pub Decides : Type 0 → Bool → Type 0

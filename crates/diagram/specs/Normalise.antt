@@ -4,25 +4,28 @@ use mathlib.Core.Path.{_≡_}
 use mathlib.Core.Logic.{_≢_, _⊎_}
 use Prim.Native.Nat.{ℕ, _<_}
 use Rattle.field.specs.Weight.{modulus, toWeight, timesW}
+use Rattle.diagram.specs.Tensor.{masks}
 use Rattle.diagram.specs.Node.{NodeFits}
 use Rattle.diagram.specs.declared.node.Node.{Node}
 use Rattle.diagram.specs.declared.node.Edge.{Edge}
 
--- edges within their ranges, not both zero
-pub record NormaliseRequires (k : ℕ) (l h : Edge) : Type 0 where
+-- edges and a mask within their ranges, the edges not both zero
+pub record NormaliseRequires (k : ℕ) (l h : Edge) (mask : ℕ) : Type 0 where
   pub index : k < 256
   pub low-small : l .weight < modulus
   pub high-small : h .weight < modulus
   pub low-node : l .node < 65536
   pub high-node : h .node < 65536
+  pub mask-small : mask < masks
   pub either : l .weight ≡ 0 → h .weight ≢ 0
 
--- w times the node x is l and h joined at k, and x's first weight that is not 0 is 1
-pub record NormaliseEnsures (k : ℕ) (l h : Edge) (w : ℕ) (x : Node) : Type 0 where
+-- w times the node x, which has the mask, is l and h joined at k, and x's first weight that is not 0 is 1
+pub record NormaliseEnsures (k : ℕ) (l h : Edge) (mask w : ℕ) (x : Node) : Type 0 where
   pub fits : NodeFits x
   pub index : x .index ≡ k
   pub low-node : x .low .node ≡ l .node
   pub high-node : x .high .node ≡ h .node
+  pub same-mask : x .mask ≡ mask
   pub nonzero : w ≢ 0
   pub small : w < modulus
   pub low-small : x .low .weight < modulus

@@ -17,13 +17,14 @@ times-one w = rw weight-one (timesW-comm _ 1W ∙ timesW-one _)
 pub weight-times-zero : (w : ℕ) → timesW (toWeight w) (toWeight 0) ≡ toWeight 0
 weight-times-zero w = rw weight-zero (timesW-comm _ 0W ∙ timesW-zero _)
 
-module _ {k : ℕ} {l h : Edge} (n : NormaliseRequires k l h) where
+module _ {k : ℕ} {l h : Edge} {mask : ℕ} (n : NormaliseRequires k l h mask) where
   -- the low weight is 0: the high weight is taken out
   pub normalise-high : l .weight ≡ 0
-      → NormaliseEnsures k l h (h .weight) (record {
+      → NormaliseEnsures k l h mask (h .weight) (record {
         index = k;
         low = record { weight = 0; node = l .node };
         high = record { weight = 1; node = h .node };
+        mask = mask;
       })
   normalise-high z =
       record {
@@ -31,6 +32,7 @@ module _ {k : ℕ} {l h : Edge} (n : NormaliseRequires k l h) where
         index = refl;
         low-node = refl;
         high-node = refl;
+        same-mask = refl;
         nonzero = n .either z;
         small = n .high-small;
         low-small = omega arith;
@@ -43,10 +45,11 @@ module _ {k : ℕ} {l h : Edge} (n : NormaliseRequires k l h) where
   -- otherwise the low weight is
   pub normalise-low : {i r : ℕ} → l .weight ≢ 0 → Represents i (inverseW (toWeight (l .weight)))
       → Represents r (timesW (toWeight i) (toWeight (h .weight)))
-      → NormaliseEnsures k l h (l .weight) (record {
+      → NormaliseEnsures k l h mask (l .weight) (record {
         index = k;
         low = record { weight = 1; node = l .node };
         high = record { weight = r; node = h .node };
+        mask = mask;
       })
   normalise-low z p q =
       record {
@@ -54,6 +57,7 @@ module _ {k : ℕ} {l h : Edge} (n : NormaliseRequires k l h) where
         index = refl;
         low-node = refl;
         high-node = refl;
+        same-mask = refl;
         nonzero = z;
         small = n .low-small;
         low-small = omega arith;

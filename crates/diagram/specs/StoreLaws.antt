@@ -14,9 +14,8 @@ use Rattle.diagram.specs.TensorLaws.{isZero-constant}
 use Rattle.diagram.specs.Tally.{Step, Set, join, joinCases}
 use Rattle.diagram.specs.Sets.{PrefixOf}
 use Rattle.diagram.specs.SetsLaws.{prefix-refl, prefix-trans, put-grows}
-use Rattle.diagram.specs.Node.{capacity, nodeAt, SameRecords}
-use Rattle.diagram.specs.NodeLaws.{same-records-node, edge-eq, listed-length, listed-at, listed-prefix}
-use Rattle.diagram.specs.MakeLaws.{same-records-state}
+use Rattle.diagram.specs.Node.{capacity, nodeAt}
+use Rattle.diagram.specs.NodeLaws.{edge-eq, listed-length, listed-at, listed-prefix}
 use Rattle.diagram.specs.Meaning.{tensorAt, edgeIn, nodeTensor, noNode, nodeIn, Valid}
 use Rattle.diagram.specs.MeaningLaws.{tensors-length, edge-kept, tensors-prefix}
 use Rattle.diagram.specs.Canonical.{NormalNode}
@@ -57,28 +56,6 @@ pub refines-fits : {s s' : List ℕ} {st st' : State} {f : Step indices} {e : ed
     → length (f (setOf s st) .1) ≤ capacity s
 refines-fits {s} {s'} {st} {st'} d =
     rw (d .is, set-length s' st') (omega (arith, d .long, d .sound .stored .room, d .sound .stored .numbered))
-
--- the nodes and their table are not in fields 6 and 7
-pub same-records-nodes : {s s' : List ℕ} (st : State) → SameRecords s s' → nodesOf s' st ≡ nodesOf s st
-unfolding nodesOf
-same-records-nodes st a = rw (same-records-node a)
-
-pub same-records-set : {s s' : List ℕ} (st : State) → SameRecords s s' → setOf s' st ≡ setOf s st
-unfolding setOf
-same-records-set st a = rw (same-records-nodes st a)
-
-pub same-records-tensor : {s s' : List ℕ} (st : State) (e : edges.Edge) → SameRecords s s'
-    → tensorOf s' st e ≡ tensorOf s st e
-unfolding tensorOf
-same-records-tensor st e a = rw (same-records-set st a)
-
--- so what is remembered of a store stays right (remembers-more)
-pub same-records-prefix : {s s' : List ℕ} (st : State) → SameRecords s s' → PrefixOf (nodesOf s st) (nodesOf s' st)
-same-records-prefix st a = rw (same-records-nodes st a) (prefix-refl _)
-
-pub same-records-sound : {s s' : List ℕ} {st : State} → SameRecords s s' → Sound s st → Sound s' st
-same-records-sound {st = st} a h =
-    record { stored = same-records-state a (h .stored); nodes = rw (same-records-nodes st a) (h .nodes) }
 
 -- what a sound store says of its nodes and edges
 

@@ -48,6 +48,7 @@ fn shift(s: &mut [u8], n: NodeNumber, k: NodeNumber)
             weight: x.high.weight,
             node: high,
         },
+        mask: x.mask,
     };
     node::write(s, k, y);
     fields::set(s, 5, n - 1, k);

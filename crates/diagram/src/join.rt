@@ -2,18 +2,35 @@
 use crate::make;
 use crate::make::Slot;
 use crate::make::State;
+use crate::mask;
 use crate::node;
 use crate::node::Edge;
 use crate::node::Index;
+use crate::node::Mask;
 use crate::normalise;
+use crate::support;
+ghost use Prim.Native.Nat.{_<_};
+ghost use Rattle.diagram.specs.Tensor.{indexCount};
 ghost use Rattle.diagram.specs.Tally.{join as joins};
+ghost use Rattle.diagram.specs.Meaning.{Valid};
 ghost use Rattle.diagram.specs.Store.{tensorOf, Sound, Refines};
-ghost use Rattle.diagram.specs.Join.{JoinRequires};
+ghost use Rattle.diagram.specs.Join.{NodeMaskEnsures, JoinRequires};
 
 // An edge to the result, and the state then; or the nodes would be more than the store holds.
 pub enum Outcome {
     Edge(Edge, State),
     Full,
+}
+
+// The mask of a node at k whose parts are l and h: k, and what they depend on.
+fn node_mask(store: &[u8], s: State, k: Index, l: Edge, h: Edge) -> Mask
+    requires { ⌜ Sound (now store) s × ((k < indexCount) × (Valid (s .count) l × Valid (s .count) h)) ⌝ }
+    ensures { λ r. ⌜ NodeMaskEnsures (now (store .entry)) s k l h r ⌝ }
+{
+    let low = support::support(store, s, l);
+    let high = support::support(store, s, h);
+    let own = mask::power(k);
+    own | (low | high)
 }
 
 // The tensor that is l at 0 and h at 1 of the index k.
@@ -25,7 +42,8 @@ pub fn join(store: &mut [u8], s: State, k: Index, l: Edge, h: Edge) -> Outcome
     if node::same_edge(l, h) {
         return Outcome::Edge(l, s);
     }
-    let x = normalise::normalise(k, l, h);
+    let mask = node_mask(store, s, k, l, h);
+    let x = normalise::normalise(k, l, h, mask);
     let weight = x.weight;
     let node = x.node;
     let Slot::At(n, t) = make::make(store, s, node) else {

@@ -9,7 +9,7 @@ ghost use Rattle.diagram.specs.Tensor.{bits, members, power2};
 ghost use Rattle.diagram.specs.Mask.{MaskWithout, MaskFrom};
 
 // The number of the set that has k alone.
-fn power(k: Index) -> Mask
+pub(crate) fn power(k: Index) -> Mask
     requires { ⌜ k < 64 ⌝ }
     ensures { λ r. ⌜ r ≡ 2 ^ k ⌝ }
 {

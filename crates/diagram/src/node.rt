@@ -32,6 +32,8 @@ pub struct Node {
     pub index: Index,
     pub low: Edge,
     pub high: Edge,
+    // The indices on which the node's tensor depends.
+    pub mask: Mask,
 }
 
 pub(crate) fn same_edge(a: Edge, b: Edge) -> bool
@@ -53,7 +55,9 @@ pub(crate) fn same(x: Node, y: Node) -> bool
         return false;
     }
     if same_edge(x.low, y.low) {
-        return same_edge(x.high, y.high);
+        if same_edge(x.high, y.high) {
+            return x.mask == y.mask;
+        }
     }
     false
 }
@@ -76,7 +80,10 @@ pub(crate) fn read(s: &[u8], n: NodeNumber) -> Node
     let b = fields::get(s, 1, i);
     let c = fields::get(s, 2, i);
     let d = fields::get(s, 3, i);
+    let e = fields::get(s, 6, i);
+    let f = fields::get(s, 7, i);
     let high = c + 65536 * (a / 512 % 2);
+    let mask = e + 65536 * f;
     Node {
         index: a % 256,
         low: Edge {
@@ -87,6 +94,7 @@ pub(crate) fn read(s: &[u8], n: NodeNumber) -> Node
             weight: high as u64,
             node: d,
         },
+        mask: mask as u64,
     }
 }
 
@@ -98,9 +106,12 @@ pub(crate) fn write(s: &mut [u8], n: NodeNumber, x: Node)
     let i = n - 1;
     let low = x.low.weight as usize;
     let high = x.high.weight as usize;
+    let mask = x.mask as usize;
     let packed = x.index + 256 * low + 512 * (high / 65536);
     fields::set(s, 0, i, packed);
     fields::set(s, 1, i, x.low.node);
     fields::set(s, 2, i, high % 65536);
     fields::set(s, 3, i, x.high.node);
+    fields::set(s, 6, i, mask % 65536);
+    fields::set(s, 7, i, mask / 65536);
 }

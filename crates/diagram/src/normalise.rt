@@ -1,6 +1,7 @@
 // The normal form of a node.
 use crate::node::Edge;
 use crate::node::Index;
+use crate::node::Mask;
 use crate::node::Node;
 use crate::node::Weight;
 ghost use Rattle.diagram.specs.Normalise.{NormaliseRequires, NormaliseEnsures};
@@ -11,10 +12,11 @@ pub(crate) struct WeightedNode {
     pub(crate) node: Node,
 }
 
-// What is l at 0 and h at 1 of the index k: divided by the low weight, or by the high weight where the low one is 0.
-pub(crate) fn normalise(k: Index, l: Edge, h: Edge) -> WeightedNode
-    requires { ⌜ NormaliseRequires k l h ⌝ }
-    ensures { λ r. ⌜ NormaliseEnsures k l h (r .weight) (r .node) ⌝ }
+// What is l at 0 and h at 1 of the index k, with its mask: divided by the low weight, or by the high weight where the
+// low one is 0.
+pub(crate) fn normalise(k: Index, l: Edge, h: Edge, mask: Mask) -> WeightedNode
+    requires { ⌜ NormaliseRequires k l h mask ⌝ }
+    ensures { λ r. ⌜ NormaliseEnsures k l h mask (r .weight) (r .node) ⌝ }
 {
     let v = l.weight;
     let w = h.weight;
@@ -27,6 +29,7 @@ pub(crate) fn normalise(k: Index, l: Edge, h: Edge) -> WeightedNode
             index: k,
             low,
             high,
+            mask,
         };
         return WeightedNode { weight: w, node };
     }
@@ -38,6 +41,7 @@ pub(crate) fn normalise(k: Index, l: Edge, h: Edge) -> WeightedNode
         index: k,
         low,
         high,
+        mask,
     };
     WeightedNode { weight: v, node }
 }

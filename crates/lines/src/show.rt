@@ -61,6 +61,7 @@ fn call(c: Call) {
         Call::Collect => word(b"collect"),
         Call::At(a, v) => two(b"at", a, v),
         Call::Cmp(a, b) => two(b"cmp", a, b),
+        Call::On(a) => one(b"on", a),
         Call::Refused(r) => one(b"no", text::answer::refusal_number(r)),
     }
 }

@@ -2,7 +2,6 @@
 use diagram::build;
 use diagram::collect;
 use diagram::contract;
-use diagram::depends;
 use diagram::gate::Gate;
 use diagram::gate::QubitCount;
 use diagram::join::Outcome;
@@ -16,6 +15,7 @@ use diagram::registers::RegisterContent;
 use diagram::registers::RegisterNumber;
 use diagram::registers::Registers;
 use diagram::restore;
+use diagram::support;
 use diagram::unit;
 ghost use Prim.Native.Nat.{_≤_, _<_};
 ghost use Rattle.diagram.specs.Tensor.{masks};
@@ -138,7 +138,7 @@ pub fn low(store: &mut [u8], cache: &mut [u64], run: Run, k: Index) -> Run
         return run;
     };
     let j = k - 1;
-    if depends::depends(store, run.state, a, j) {
+    if support::depends(store, run.state, a, j) {
         return run;
     }
     rename(store, cache, run, a, k)

@@ -11,6 +11,7 @@ use Rattle.diagram.specs.Tensor.{indices, Tensor, value, top, fix, Normal, scal
 use Rattle.diagram.specs.Tally.{Set}
 use Rattle.diagram.specs.Node.{nodeAt, listed}
 use Rattle.diagram.specs.Meaning.{tensors, tensorAt, edgeIn, Valid}
+use Rattle.diagram.specs.Support.{supportMask}
 use Rattle.diagram.specs.Registers.{emptyRegister, occupied}
 use Rattle.diagram.specs.Weights.{Weight, toWeight}
 use Rattle.text.specs.Text.{Bytes}
@@ -46,7 +47,7 @@ abbrev pub AgreeEverywhere : Tensor indices → Tensor indices → Type 0
 AgreeEverywhere A B = (v : ℕ) → v < 2 ^ indices → value A v ≡ value B v
 
 -- Node n of the store s, where ts are the tensors of its nodes from 1 up: "A node has an index, and a weight and a node
--- number for low and for high."
+-- number for low and for high." Its record also has the mask.
 pub record IsNode (s : Bytes) (ts : Set indices) (n : ℕ) : Type 0 where
   -- its index is one of "the indices 0 to 23", and the top of its tensor: "the lowest index on which it depends"
   pub index : nodeAt s n .index < indexCount
@@ -60,6 +61,8 @@ pub record IsNode (s : Bytes) (ts : Set indices) (n : ℕ) : Type 0 where
   pub at-1 : fix (nodeAt s n .index) true (tensorAt ts n) ≡ edgeIn ts (nodeAt s n .high)
   --  it is normal."
   pub normal : Normal (tensorAt ts n)
+  -- "Each node's record now carries the mask of the indices on which its tensor depends"
+  pub mask : nodeAt s n .mask ≡ supportMask (tensorAt ts n)
 
 -- s is the store and o' the output as the session leaves them, o the output as it was lent
 pub record Agrees (s o o' : Bytes) (r : SessionResult) (t : TallyRun indices) : Type 0 where

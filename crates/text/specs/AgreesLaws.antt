@@ -11,6 +11,7 @@ use lib.ListN.{getD, length, take, drop, length-append}
 use lib.Seq.{take-append-seam}
 use Rattle.diagram.specs.Store.{nodesOf, setOf, tensorOf}
 use Rattle.diagram.specs.StoreLaws.{node-top, node-normal, node-form, node-low, node-high, node-multiple, edge-unique}
+use Rattle.diagram.specs.SupportStoreLaws.{support-record}
 use Rattle.diagram.specs.Registers.{emptyRegister, occupied, holds, holdsAll}
 use Rattle.diagram.specs.RegistersLaws.{holds-at, register-valid, register-empty}
 use Rattle.diagram.specs.Weights.{Weight, toWeight}
@@ -81,6 +82,7 @@ module _ {c s : List ℕ} {st : State} {rs : List Register} (p : Invariant c s s
         at-0 = node-low (p .sound) n k l;
         at-1 = node-high (p .sound) n k l;
         normal = node-normal (p .sound) n k l;
+        mask = support-record s st (p .sound) n k l;
       }
 
   unfoldable tensorIn : Option (Tensor indices) → Tensor indices → Tensor indices

@@ -4,20 +4,20 @@ use Prim.Native.Nat.{ℕ, _+_, _≤_, _<_}
 use native.Mathlib.Omega.{arith}
 use lib.ListN.{length, length-append}
 use Rattle.text.specs.Text.{Bytes, LF, bytes}
-use Rattle.text.specs.Limits.{answerRoom, lastWeight}
+use Rattle.text.specs.Limits.{answerRoom, lastMask}
 use Rattle.text.specs.Call.{refusalNumber}
 use Rattle.text.specs.Print.{WriteEnsures, decimal}
 use Rattle.text.specs.Answer.{labelledLine, lineOfFields, printed, SmallAnswer, AnswerWritten}
 use Rattle.text.specs.PrintLaws.{wrote-then, decimal-length, wrote-room}
 use Rattle.text.specs.declared.call.Refusal.{Refusal}
 use Rattle.text.specs.declared.answer.Answer.{Answer}
-use Rattle.text.specs.declared.answer.Answer.the-variants.{Ok, No, Value, Same, Factor, Differ}
+use Rattle.text.specs.declared.answer.Answer.the-variants.{Ok, No, Value, Same, Factor, Differ, Mask}
 use Rattle.text.specs.declared.call.Refusal.the-variants as refusal
 
-module _ (word : Bytes) (n : ℕ) (short : length word < 10) (small : n ≤ lastWeight) where
+module _ (word : Bytes) (n : ℕ) (short : length word < 8) (small : n ≤ lastMask) where
   -- it has at most 16 bytes, its LF among them
   size : length (word ++ decimal n) + 1 ≤ answerRoom
-  size = omega (arith, length-append word (decimal n), decimal-length n 5 (omega arith) (omega arith))
+  size = omega (arith, length-append word (decimal n), decimal-length n 8 (omega arith) (omega arith))
 
   pub labelled-short : length (labelledLine word n) ≤ answerRoom
   unfolding labelledLine
@@ -38,7 +38,7 @@ module _ (word : Bytes) (n : ℕ) (short : length word < 10) (small : n ≤ last
   unfolding labelledLine
   labelled-wrote h w v = wrote-then w v (omega (arith, size))
 
-refusal-small : (r : Refusal) → refusalNumber r ≤ lastWeight
+refusal-small : (r : Refusal) → refusalNumber r ≤ lastMask
 refusal-small refusal.Malformed = omega arith
 refusal-small refusal.Register = omega arith
 refusal-small refusal.Empty = omega arith
@@ -50,12 +50,13 @@ refusal-small refusal.Full = omega arith
 
 pub printed-short : (a : Answer) → SmallAnswer a → length (printed a) ≤ answerRoom
 unfolding printed lineOfFields labelledLine
-printed-short (Ok n) h = labelled-short (bytes "ok\t") n (omega arith) h
+printed-short (Ok n) h = labelled-short (bytes "ok\t") n (omega arith) (omega arith)
 printed-short (No r) h = labelled-short (bytes "no\t") (refusalNumber r) (omega arith) (refusal-small r)
-printed-short (Value w) h = labelled-short (bytes "v\t") w (omega arith) h
+printed-short (Value w) h = labelled-short (bytes "v\t") w (omega arith) (omega arith)
 printed-short Same h = omega arith
-printed-short (Factor f) h = labelled-short (bytes "factor\t") f (omega arith) h
+printed-short (Factor f) h = labelled-short (bytes "factor\t") f (omega arith) (omega arith)
 printed-short Differ h = omega arith
+printed-short (Mask m) h = labelled-short (bytes "m\t") m (omega arith) h
 
 pub answer-written : {l : Bytes} {at : ℕ} (a : Answer) {l' : Bytes} {e : ℕ} → SmallAnswer a
     → WriteEnsures l at (printed a) l' e

@@ -1,4 +1,5 @@
--- Session calls (document 01, "Session calls"): a word and its numbers, with the checks that need the line alone.
+-- Session calls (document 01, "Session calls"; document 02, `on`): a word and its numbers, with the checks that need
+-- the line alone.
 use mathlib.Core.Bool.{cond, _&&_}
 use Prim.Native.Nat.{ℕ, _≤_, _<_}
 use lib.Dec.{leb, eqb}
@@ -14,7 +15,7 @@ use Rattle.text.specs.declared.call.Call.{Call}
 use Rattle.text.specs.declared.args.Args.{Args}
 use Rattle.text.specs.declared.words.Word.{Word}
 use Rattle.text.specs.declared.words.Word.the-variants.{Put, Unit as UnitWord, Add, Cont, Low, Drop, Collect, At}
-use Rattle.text.specs.declared.words.Word.the-variants.{Cmp, Unknown}
+use Rattle.text.specs.declared.words.Word.the-variants.{Cmp, On, Unknown}
 use Rattle.text.specs.declared.call.Call.the-variants as call
 
 -- "1 (unknown word, wrong count of fields, malformed number); .. 2 register above 15, 4 out of range, 5 gate name",
@@ -68,6 +69,8 @@ callOf Collect = noNumbers malformed call.Collect
 callOf At = twoNumbers malformed (λ a v. checkRegister a (checkRange v 0 lastMask (call.At a v)))
 -- "`cmp a b`"
 callOf Cmp = twoNumbers malformed (λ a b. checkRegister a (checkRegister b (call.Cmp a b)))
+-- "`on a` .. it refuses 1, 2 and 3 like `drop`."
+callOf On = oneNumber malformed (λ a. checkRegister a (call.On a))
 callOf Unknown = λ args. malformed
 
 -- What a call carries is in range.
@@ -82,4 +85,5 @@ InRange (call.Drop a) = a < registerCount
 InRange call.Collect = Unit
 InRange (call.At a v) = (a < registerCount) × (v < masks)
 InRange (call.Cmp a b) = (a < registerCount) × (b < registerCount)
+InRange (call.On a) = a < registerCount
 InRange (call.Refused r) = Unit

@@ -97,4 +97,5 @@ call-ranged word.Collect args =
 call-ranged word.At args =
     on-two _ (λ a v. on-register a _ (λ p. on-within v 0 lastMask _ (λ l h. (p, omega arith)))) args
 call-ranged word.Cmp args = on-two _ (λ a b. on-register a _ (λ p. on-register b _ (λ q. (p, q)))) args
+call-ranged word.On args = on-one _ (λ a. on-register a _ (λ p. p)) args
 call-ranged word.Unknown args = tt

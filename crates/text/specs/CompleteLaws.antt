@@ -156,6 +156,7 @@ module _ {d : ℕ} (c : Capacity) (t : Tally d) (k : Complete t) where
   }
   answer-complete (call.At a v) i = register-complete a _ (λ A p. k)
   answer-complete (call.Cmp a b) i = register-complete a _ (λ A p. register-complete b _ (λ B q. k))
+  answer-complete (call.On a) i = register-complete a _ (λ A p. k)
   answer-complete (call.Refused r) i = k
 
   -- "the set keeps exactly the normal multiples of the nonconstant tensors got from filled registers": a filter loses
@@ -183,6 +184,7 @@ ranged-low-below (call.Drop a) h = tt
 ranged-low-below call.Collect h = tt
 ranged-low-below (call.At a v) h = tt
 ranged-low-below (call.Cmp a b) h = tt
+ranged-low-below (call.On a) h = tt
 ranged-low-below (call.Refused r) h = tt
 
 module _ (c : Capacity) (room : ℕ) where

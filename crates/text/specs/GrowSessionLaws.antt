@@ -3,9 +3,8 @@ use mathlib.Core.Path.{_≡_, refl, ap, sym, _∙_}
 use mathlib.Core.Bool.{false, true, Bool, cond}
 use mathlib.Core.List.{List, [], _∷_}
 use mathlib.Core.Option.{Option, none, some}
-use Prim.Native.Nat.{ℕ, zero, suc, _-_, _/_, _^_, _<_, _+_, _*_, min, max}
+use Prim.Native.Nat.{ℕ, zero, suc, _-_, _^_, _<_, _+_, _*_, min, max}
 use native.Mathlib.Omega.{arith}
-use native.Mathlib.Nat.{pow-zero, pow-suc}
 use lib.Dec.{leb}
 use borrow.Author.Tests.{leb-true, ltb-true}
 use lib.ListN.{length, getD, set}
@@ -17,7 +16,8 @@ use Rattle.diagram.specs.TestLaws.{and-left, and-right}
 use Rattle.diagram.specs.Weights.{Weight, toWeight}
 use Rattle.diagram.specs.Tally.{Step, sum, cont, low, build, collect, filledTensors, return}
 use Rattle.diagram.specs.Grow.{deeper, grow, MembersBelow, growAll, StepGrows}
-use Rattle.diagram.specs.GrowLaws.{grow-constant, grow-depends, grow-value, gate-grow, unit-grow}
+use Rattle.diagram.specs.GrowLaws.{grow-constant, grow-depends, grow-value, grow-support, gate-grow, unit-grow}
+use Rattle.diagram.specs.MaskBitsLaws.{bits-above}
 use Rattle.diagram.specs.CompareLaws.{grow-compared}
 use Rattle.text.specs.Text.{lines}
 use Rattle.text.specs.Limits.{answerRoom}
@@ -40,17 +40,6 @@ use Rattle.text.specs.declared.call.Refusal.{Refusal}
 use Rattle.text.specs.declared.call.Call.{Call}
 use Rattle.text.specs.declared.answer.Answer.the-variants as answers
 use Rattle.text.specs.declared.call.Call.the-variants as call
-
--- a mask below 2^d has no member from d on
-mask-below : (d x : ℕ) → x < 2 ^ d → MembersBelow d (bits x)
-unfolding bits
-mask-below zero x p j q = let e : x ≡ 0 = omega (arith, pow-zero 2) in rw e (no-bits j)
-  where
-    no-bits : (j : ℕ) → bits 0 j ≡ false
-    no-bits zero = refl
-    no-bits (suc j) = no-bits j
-mask-below (suc d) x p zero q = absurd (omega arith)
-mask-below (suc d) x p (suc j) q = mask-below d (x / 2) (let e = pow-suc 2 d in omega arith) j (omega arith)
 
 -- a gate whose qubits are below fits
 
@@ -194,6 +183,11 @@ module _ {d : ℕ} (m : ℕ) where
       grow-register t a _ _ (λ A. grow-register t b _ _
       (λ B. ap (λ x. (comparison x, growTally m t)) (grow-compared m A B)))
 
+  grow-on : (c : Capacity) (a : ℕ) (t : Tally d)
+      → answer c (call.On a) (growTally m t) ≡ growReply m (answer c (call.On a) t)
+  unfolding answer
+  grow-on c a t = grow-register t a _ _ (λ A. ap (λ x. (answers.Mask x, growTally m t)) (grow-support m A))
+
   grow-answer : (c : Capacity) (x : Call) (t : Tally d) → touches d x ≡ true
       → answer c x (growTally m t) ≡ growReply m (answer c x t)
   unfolding touches
@@ -205,12 +199,13 @@ module _ {d : ℕ} (m : ℕ) where
       unfold answer growTally in grow-build c r (unitTensor d n) (unitTensor (deeper d m) n) t
       (unit-grow m d n (leb-true (3 * n) d e))
   grow-answer c (call.Add r a b) t e = grow-add c r a b t
-  grow-answer c (call.Cont r a b x) t e = grow-cont c r a b x t (mask-below d x (ltb-true x (2 ^ d) e))
+  grow-answer c (call.Cont r a b x) t e = grow-cont c r a b x t (λ j q. bits-above d x j (ltb-true x (2 ^ d) e) q)
   grow-answer c (call.Low r a k) t e = grow-low c r a k t (ltb-true k d e)
   grow-answer c (call.Drop a) t e = grow-drop c a t
   grow-answer c call.Collect t e = grow-collect c t
   grow-answer c (call.At a v) t e = grow-at c a v t
   grow-answer c (call.Cmp a b) t e = grow-cmp c a b t
+  grow-answer c (call.On a) t e = grow-on c a t
   grow-answer c (call.Refused r) t e = unfold answer in grow-refuse r t
 
   -- calls and lines, one after another
@@ -226,6 +221,7 @@ module _ {d : ℕ} (m : ℕ) where
   grow-continue line (answers.Same, t) f g h = h t
   grow-continue line (answers.Factor w, t) f g h = h t
   grow-continue line (answers.Differ, t) f g h = h t
+  grow-continue line (answers.Mask x, t) f g h = h t
 
   grow-perform : (c : Capacity) (xs : List NumberedCall) (t : Tally d) → allTouch d xs ≡ true
       → perform c xs (growTally m t) ≡ growResult m (perform c xs t)

@@ -58,6 +58,7 @@ small-ruling (answers.Value w) h = tt
 small-ruling answers.Same h = tt
 small-ruling (answers.Factor f) h = h
 small-ruling answers.Differ h = tt
+small-ruling (answers.Mask m) h = tt
 
 pub compare-lists-ensures : {e : Engine} {y : Reply} {r : Ruling} → PureEnsures e (call.Cmp 0 1) y
     → r ≡ rulingOfAnswer (y .answer) → CompareListsEnsures e r

@@ -50,6 +50,7 @@ ruling-continue c line (answers.Value w) t f = refl
 ruling-continue c line answers.Same t f = refl
 ruling-continue c line (answers.Factor w) t f = refl
 ruling-continue c line answers.Differ t f = refl
+ruling-continue c line (answers.Mask m) t f = refl
 
 -- one call
 

@@ -116,7 +116,7 @@ digits-length (suc m) (suc (suc k)) n p h =
     go true r = omega arith
     go false r = omega (arith, length-append (digits m (n / 10)) ((48 + n % 10) ∷ []))
 
--- no number is longer than 20 digits, and none of an answer longer than 5
+-- no number is longer than 20 digits, and none of an answer longer than 8
 pub decimal-length : (n k : ℕ) → 0 < k → n < 10 ^ k → length (decimal n) ≤ k
 unfolding decimal
 decimal-length n k p h = digits-length 20 k n p h

@@ -7,7 +7,7 @@ use Prim.Native.Nat.{_-_, ℕ, _<_}
 use native.Mathlib.Omega.{arith}
 use lib.ListN.{set}
 use Rattle.diagram.specs.InvariantLaws.{holds-read, read-valid, invariant-clear, invariant-collect}
-use Rattle.diagram.specs.Tensor.{Tensor, indices, bits, constant, value}
+use Rattle.diagram.specs.Tensor.{Tensor, indices, bits, constant, value, masks}
 use Rattle.diagram.specs.Store.{setOf, tensorOf, Refines}
 use Rattle.diagram.specs.StoreLaws.{set-length}
 use Rattle.diagram.specs.Registers.{GetEnsures, RegistersValid, emptyRegister, holds}
@@ -20,6 +20,7 @@ use Rattle.diagram.specs.Gate.{gateTensor, unitTensor}
 use Rattle.diagram.specs.Compare.{ComparisonMeans, compared, CompareEnsures}
 use Rattle.diagram.specs.CompareLaws.{compared-means}
 use Rattle.diagram.specs.Collect.{CollectEnsures}
+use Rattle.diagram.specs.Support.{supportMask}
 use Rattle.text.specs.Limits.{registerCount}
 use Rattle.text.specs.Call.{InRange, refusalNumber}
 use Rattle.text.specs.Answer.{isNo, SmallAnswer}
@@ -36,7 +37,7 @@ use Rattle.diagram.specs.declared.node.Edge.{Edge}
 use Rattle.diagram.specs.declared.registers.RegisterContent.{RegisterContent}
 use Rattle.text.specs.declared.call.Refusal.the-variants.{Empty}
 use Rattle.text.specs.declared.answer.Answer.{Answer}
-use Rattle.text.specs.declared.answer.Answer.the-variants.{Ok, No, Value, Same, Factor, Differ}
+use Rattle.text.specs.declared.answer.Answer.the-variants.{Ok, No, Value, Same, Factor, Differ, Mask}
 use Rattle.text.specs.declared.call.Refusal.{Refusal}
 use Rattle.diagram.specs.declared.join.Outcome.{Outcome}
 use Rattle.diagram.specs.declared.gate.Gate.{Gate}
@@ -89,6 +90,7 @@ refusalOfAnswer (Value w) = 0
 refusalOfAnswer Same = 0
 refusalOfAnswer (Factor f) = 0
 refusalOfAnswer Differ = 0
+refusalOfAnswer (Mask m) = 0
 
 -- a refusal with another number is not as full
 pub refused-forgets : {c : List ℕ} {e : Engine} {r : Reply} (why : Refusal) → refusalNumber why ≢ 8
@@ -152,6 +154,11 @@ module _ {e : Engine} {r : Reply} {a : ℕ} {h : RegisterContent} (g : GetEnsure
   pub empty-at : {s : List ℕ} {v : ℕ} → h ≡ content.Empty → RefuseEnsures e Empty r → ReadEnsures s e (call.At a v) r
   unfolding answer
   empty-at {s} q f =
+      record { on = λ c p. respond-refused p (refused-forgets Empty (λ z. omega arith) f) f (operand-empty s e g _ q) }
+
+  pub empty-on : {s : List ℕ} → h ≡ content.Empty → RefuseEnsures e Empty r → ReadEnsures s e (call.On a) r
+  unfolding answer
+  empty-on {s} q f =
       record { on = λ c p. respond-refused p (refused-forgets Empty (λ z. omega arith) f) f (operand-empty s e g _ q) }
 
   pub empty-cmp : {b : ℕ} → h ≡ content.Empty → RefuseEnsures e Empty r → PureEnsures e (call.Cmp a b) r
@@ -261,6 +268,19 @@ small-comparison A B compare.Same n = tt
 small-comparison A B (compare.Factor f) n = omega (arith, n .small)
 small-comparison A B compare.Differ n = tt
 
+-- a call that answers n and leaves everything as it was
+answers-only : {c s : List ℕ} {e : Engine} {x : Call} {n : Answer} → EngineInvariant c s e → SmallAnswer n
+    → answer (atMost (capacity s)) x (tallyOf s e) ≡ (n, tallyOf s e) → Forgets x c (record { answer = n; engine = e })
+    → RespondEnsures c s s e x (record { answer = n; engine = e })
+answers-only p small is forgets =
+    record {
+      invariant = p;
+      small = small;
+      is = is;
+      refused = λ no. record { nodes = refl; registers = refl };
+      forgets = forgets;
+    }
+
 module _ {e : Engine} {a : ℕ} {h : RegisterContent} {x : Edge} (i : GetEnsures (e .registers .all) a h)
     (o : h ≡ content.Edge x) where
   pub responds-drop : {rs : Registers} → rs .all ≡ set (e .registers .all) a emptyRegister
@@ -284,17 +304,18 @@ module _ {e : Engine} {a : ℕ} {h : RegisterContent} {x : Edge} (i : GetEnsures
   pub responds-at : {s : List ℕ} {v w : ℕ} → Represents w (value (tensorOf s (e .state) x) v)
       → ReadEnsures s e (call.At a v) (record { answer = Value w; engine = e })
   unfolding answer
-  responds-at {s} {v} {w} n = record { on = on }
-    where
-      on : (c : List ℕ) → EngineInvariant c s e
-          → RespondEnsures c s s e (call.At a v) (record { answer = Value w; engine = e })
-      on c p = record {
-        invariant = p;
-        small = omega (arith, n .small);
-        is = operand s e i _ o ∙ ap (λ n. (Value n, tallyOf s e)) (sym (represents-number n));
-        refused = λ no. record { nodes = refl; registers = refl };
-        forgets = never-full (Value w) refl;
-      }
+  responds-at {s} {v} {w} n = record {
+    on = λ c p. answers-only p (omega (arith, n .small))
+        (operand s e i _ o ∙ ap (λ n. (Value n, tallyOf s e)) (sym (represents-number n))) (never-full (Value w) refl);
+  }
+
+  pub responds-on : {s : List ℕ} {m : ℕ} → m ≡ supportMask (tensorOf s (e .state) x) → m < masks
+      → ReadEnsures s e (call.On a) (record { answer = Mask m; engine = e })
+  unfolding answer
+  responds-on {s} {m} is small = record {
+    on = λ c p. answers-only p (omega (arith, small))
+        (operand s e i _ o ∙ ap (λ n. (Mask n, tallyOf s e)) (sym is)) (never-full (Mask m) refl);
+  }
 
   pub responds-cmp : {b : ℕ} {g : RegisterContent} {y : Edge} {r : Comparison} {n : Answer} → a < registerCount → b
       < registerCount
@@ -308,15 +329,11 @@ module _ {e : Engine} {a : ℕ} {h : RegisterContent} {x : Edge} (i : GetEnsures
       on c s p =
           let t : compared (tensorOf s (e .state) x) (tensorOf s (e .state) y) ≡ r =
           w .is s (e .state) (p .sound) (read-valid h (p .registers) u i o) (read-valid g (p .registers) v j q) in
-          record {
-            invariant = p;
-            small =
-                subst SmallAnswer (sym m) (small-comparison _ _ r
-                (subst (ComparisonMeans _ _) t (compared-means (tensorOf s (e .state) x) (tensorOf s (e .state) y))));
-            is = operand s e i _ o ∙ operand s e j _ q ∙ ap (λ z. (z, tallyOf s e)) (ap comparison t ∙ sym m);
-            refused = λ no. record { nodes = refl; registers = refl };
-            forgets = never-full n (ap isNo m ∙ comparison-accepted r);
-          }
+          answers-only p
+          (subst SmallAnswer (sym m) (small-comparison _ _ r
+          (subst (ComparisonMeans _ _) t (compared-means (tensorOf s (e .state) x) (tensorOf s (e .state) y)))))
+          (operand s e i _ o ∙ operand s e j _ q ∙ ap (λ z. (z, tallyOf s e)) (ap comparison t ∙ sym m))
+          (never-full n (ap isNo m ∙ comparison-accepted r))
 
 pub responds-collect : {c' s s' : List ℕ} {e : Engine} {st : State} {rs : Registers}
     → CollectEnsures c' s s' (e .state) st (e .registers .all) (rs .all)

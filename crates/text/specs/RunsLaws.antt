@@ -67,6 +67,7 @@ continue-then P Q line (answers.Value w, t) f g r h = h t r
 continue-then P Q line (answers.Same, t) f g r h = h t r
 continue-then P Q line (answers.Factor w, t) f g r h = h t r
 continue-then P Q line (answers.Differ, t) f g r h = h t r
+continue-then P Q line (answers.Mask m, t) f g r h = h t r
 
 -- calls, and then more calls
 pub runs-append : {d : ℕ} {c : Capacity} (P Q : RegisterList d → Type 0) (xs ys : List NumberedCall) (t : Tally d)

@@ -1,6 +1,7 @@
--- The tally of a session (document 01, "The tally" and "Session calls"): "the plain machine that sessions are compared
--- with. It is fed the session's lines, the capacity and the length of the output, and nothing that the engine holds or
--- answers." d is the number of indices: 24 in the engine, fewer where the checker computes a session.
+-- The tally of a session (document 01, "The tally" and "Session calls"; document 02, `on`): "the plain machine that
+-- sessions are compared with. It is fed the session's lines, the capacity and the length of the output, and nothing
+-- that the engine holds or answers." d is the number of indices: 24 in the engine, fewer where the checker computes a
+-- session.
 use mathlib.Core.Bool.{Bool, true, cond}
 use mathlib.Core.List.{List, [], _++_, _∷_}
 use mathlib.Core.Option.{Option, none, some}
@@ -12,12 +13,13 @@ use Rattle.diagram.specs.Tally.{Set, sum, cont, low, build, collect, filledTens
 use Rattle.diagram.specs.Weights.{toWeight}
 use Rattle.diagram.specs.Gate.{gateTensor, unitTensor}
 use Rattle.diagram.specs.Compare.{compared}
+use Rattle.diagram.specs.Support.{supportMask}
 use Rattle.text.specs.Text.{lines}
 use Rattle.text.specs.Limits.{registerCount, answerRoom}
 use Rattle.text.specs.Line.{readLine}
 use Rattle.text.specs.Answer.{printed}
 use Rattle.text.specs.declared.answer.Answer.{Answer}
-use Rattle.text.specs.declared.answer.Answer.the-variants.{No, Ok, Same, Factor, Differ, Value}
+use Rattle.text.specs.declared.answer.Answer.the-variants.{No, Ok, Same, Factor, Differ, Value, Mask}
 use Rattle.text.specs.declared.call.Refusal.{Refusal}
 use Rattle.text.specs.declared.call.Refusal.the-variants.{Full, Empty, Depends}
 use Rattle.diagram.specs.declared.compare.Comparison.{Comparison}
@@ -106,6 +108,8 @@ answer c call.Collect t =
 answer c (call.At a v) t = withRegister t a (λ A. (Value (value A v .number), t))
 -- "`cmp a b`"
 answer c (call.Cmp a b) t = withRegister t a (λ A. withRegister t b (λ B. (comparison (compared A B), t)))
+-- "`on a` answers `m` and the register's mask": bit k is set exactly when the tensor depends on index k
+answer c (call.On a) t = withRegister t a (λ A. (Mask (supportMask A), t))
 -- what the line's reader refused
 answer c (call.Refused r) t = refuse r t
 

@@ -88,6 +88,7 @@ module _ {d : ℕ} (c : Capacity) (t : Tally d) where
   refused-leaves call.Collect = λ e. absurd (false≢true e)
   refused-leaves (call.At a v) = kept-register a _ (λ A e. refl)
   refused-leaves (call.Cmp a b) = kept-register a _ (λ A. kept-register b _ (λ B e. refl))
+  refused-leaves (call.On a) = kept-register a _ (λ A e. refl)
   refused-leaves (call.Refused r) = λ e. refl
 
 -- The tally's set never exceeds the capacity, so `put`, which puts nothing in, is never refused as full.
@@ -145,6 +146,7 @@ module _ {d : ℕ} (c : Capacity) (t : Tally d) (h : fits c (nodeCount t) ≡ tr
   answer-fits call.Collect = fits-fewer c _ (length (t .nodes)) (keep-only-fewer _ (t .nodes)) h
   answer-fits (call.At a v) = fit-register a _ (λ A. h)
   answer-fits (call.Cmp a b) = fit-register a _ (λ A. fit-register b _ (λ B. h))
+  answer-fits (call.On a) = fit-register a _ (λ A. h)
   answer-fits (call.Refused r) = h
 
   -- "`put d w` .. Refuses 1, 2, 4."

@@ -120,6 +120,7 @@ module _ {d : ℕ} (c : Capacity) (m line : ℕ) (r : Refusal) where
   continue-most l p (answers.Same, t) f h e = h t e
   continue-most l p (answers.Factor w, t) f h e = h t e
   continue-most l p (answers.Differ, t) f h e = h t e
+  continue-most l p (answers.Mask m, t) f h e = h t e
 
   perform-most : (xs : List NumberedCall) → AllMost m xs → (t : Tally d) → perform c xs t ≡ refusedAt line r → line ≤ m
   unfolding perform

@@ -187,6 +187,7 @@ ruling-not-no answers.Differ f line e = let z : _≡_ {A = ℕ} 0 1 = cc in omeg
 ruling-not-no (answers.Ok k) f line e = let z : _≡_ {A = ℕ} 0 1 = cc in omega arith
 ruling-not-no (answers.No r) f line e = let z : _≡_ {A = ℕ} 0 1 = cc in omega arith
 ruling-not-no (answers.Value w) f line e = let z : _≡_ {A = ℕ} 0 1 = cc in omega arith
+ruling-not-no (answers.Mask m) f line e = let z : _≡_ {A = ℕ} 0 1 = cc in omega arith
 
 ruling-full : {d : ℕ} (c : Capacity) {P : RegisterList d → Type 0} {x : PerformResult d} → AllCallsRun c P x
     → (f : Fault) (line : ℕ)

@@ -65,6 +65,7 @@ continueWith line (answers.Value w, t) f = f t
 continueWith line (answers.Same, t) f = f t
 continueWith line (answers.Factor w, t) f = f t
 continueWith line (answers.Differ, t) f = f t
+continueWith line (answers.Mask m, t) f = f t
 
 unfoldable pub perform : {d : ℕ} → Capacity → List NumberedCall → Tally d → PerformResult d
 perform c [] t = endedWith t
@@ -79,7 +80,7 @@ registerTensor r (endedWith t) = getD (t .registers) r none
 unfoldable pub listTensor : (d n : ℕ) → List Gate → Option (Tensor d)
 listTensor d n gs = registerTensor 0 (perform unlimited (listCalls 0 n 1 gs) emptyTally)
 
--- "then `cmp 0 1`": what its answer says. Its last three cases do not come: `cmp` is asked of filled registers
+-- "then `cmp 0 1`": what its answer says. Its last four cases do not come: `cmp` is asked of filled registers
 -- (ruling-judged in VerdictSessionLaws).
 abbrev pub rulingOfAnswer : Answer → Ruling
 rulingOfAnswer answers.Same = Same
@@ -88,6 +89,7 @@ rulingOfAnswer answers.Differ = Differ
 rulingOfAnswer (answers.Ok n) = Differ
 rulingOfAnswer (answers.No r) = Differ
 rulingOfAnswer (answers.Value w) = Differ
+rulingOfAnswer (answers.Mask m) = Differ
 
 -- "8 full, at the line being run". No other refusal comes (session-runs in VerdictSessionLaws).
 unfoldable pub rulingAtEnd : {d : ℕ} → Capacity → PerformResult d → Ruling

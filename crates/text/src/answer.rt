@@ -1,12 +1,13 @@
 // A session's answers, and their printed bytes.
 use crate::call::Refusal;
+use crate::limits::Mask;
 use crate::limits::Weight;
 use crate::print;
 use diagram::node::NodeCount;
 ghost use mathlib.Core.Path.{_≡_};
 ghost use Prim.Native.Nat.{_+_, _≤_, _<_};
 ghost use lib.ListN.{length};
-ghost use Rattle.text.specs.Limits.{answerRoom, lastWeight};
+ghost use Rattle.text.specs.Limits.{answerRoom, lastMask, lastWeight};
 ghost use Rattle.text.specs.Call.{refusalNumber};
 ghost use Rattle.text.specs.Answer.{printed, SmallAnswer, AnswerWritten, labelledLine};
 ghost use Rattle.text.specs.Print.{WriteEnsures};
@@ -18,6 +19,7 @@ pub enum Answer {
     Same,
     Factor(Weight),
     Differ,
+    Mask(Mask),
 }
 
 // Document 01's number of a refusal.
@@ -38,7 +40,7 @@ pub fn refusal_number(r: Refusal) -> usize
 
 // Puts a word with its tab, and a number, as a line; the answer is the place after it.
 fn pair(out: &mut [u8], at: usize, word: &[u8], n: usize) -> usize
-    requires { ⌜ (at + answerRoom ≤ length (now out)) × ((length (now word) < 10) × (n ≤ lastWeight)) ⌝ }
+    requires { ⌜ (at + answerRoom ≤ length (now out)) × ((length (now word) < 8) × (n ≤ lastMask)) ⌝ }
     ensures { λ r. ⌜ WriteEnsures (now (out .entry)) at (labelledLine (now (word .entry)) n) (now (out .exit)) r ⌝ }
 {
     let e = print::labelled(out, at, word, n);
@@ -56,6 +58,7 @@ fn put(out: &mut [u8], at: usize, answer: Answer) -> usize
         Answer::Same => print::put_bytes(out, at, b"same\n"),
         Answer::Factor(f) => pair(out, at, b"factor\t", f),
         Answer::Differ => print::put_bytes(out, at, b"differ\n"),
+        Answer::Mask(m) => pair(out, at, b"m\t", m),
     }
 }
 

@@ -27,7 +27,7 @@ pub enum Refusal {
     Full,
 }
 
-// A call with its registers, weights, masks, indices and assignments, in document 01's order; or a refusal.
+// A call with its registers, weights, masks, indices and assignments, in the documents' order; or a refusal.
 pub enum Call {
     Put(RegisterNumber, Weight),
     Gate(RegisterNumber, Gate),
@@ -39,6 +39,7 @@ pub enum Call {
     Collect,
     At(RegisterNumber, Assignment),
     Cmp(RegisterNumber, RegisterNumber),
+    On(RegisterNumber),
     Refused(Refusal),
 }
 
@@ -151,6 +152,15 @@ fn cmp(args: Args) -> Call
     check_register(a, check_register(b, Call::Cmp(a, b)))
 }
 
+fn on(args: Args) -> Call
+    ensures { λ r. ⌜ r ≡ callOf Word.On args ⌝ }
+{
+    let Args::One(a) = args else {
+        return Call::Refused(Refusal::Malformed);
+    };
+    check_register(a, Call::On(a))
+}
+
 // The call of a word, other than `gate`, with these numbers.
 pub fn make(word: Word, args: Args) -> Call
     ensures { λ r. ⌜ r ≡ callOf word args ⌝ }
@@ -165,6 +175,7 @@ pub fn make(word: Word, args: Args) -> Call
         Word::Collect => collect(args),
         Word::At => at(args),
         Word::Cmp => cmp(args),
+        Word::On => on(args),
         Word::Unknown => Call::Refused(Refusal::Malformed),
     }
 }

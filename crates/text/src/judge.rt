@@ -35,6 +35,7 @@ fn ruling_of(answer: Answer) -> Ruling
         Answer::Same => Ruling::Same,
         Answer::Factor(f) => Ruling::Factor(f),
         Answer::Differ => Ruling::Differ,
+        Answer::Mask(_) => Ruling::Differ,
     }
 }
 

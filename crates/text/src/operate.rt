@@ -8,7 +8,6 @@ use crate::limits::Mask;
 use crate::limits::Weight;
 use diagram::build;
 use diagram::contract;
-use diagram::depends;
 use diagram::gate::Gate;
 use diagram::gate::QubitCount;
 use diagram::join::Outcome;
@@ -17,6 +16,7 @@ use diagram::node::Edge;
 use diagram::node::Index;
 use diagram::registers::RegisterNumber;
 use diagram::sum;
+use diagram::support;
 use diagram::unit;
 ghost use Prim.Native.Nat.{_≤_, _<_};
 ghost use Rattle.diagram.specs.Tensor.{bits, masks};
@@ -151,7 +151,7 @@ pub(crate) fn low(
     ensures { λ r. ⌜ LowEnsures (now (cache .exit)) (now (store .entry)) (now (store .exit)) engine d k a r ⌝ }
 {
     let j = k - 1;
-    if depends::depends(store, engine.state, a, j) {
+    if support::depends(store, engine.state, a, j) {
         return engine::refuse(engine, Refusal::Depends);
     }
     lower(store, cache, engine, d, a, k)

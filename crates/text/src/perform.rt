@@ -37,6 +37,7 @@ fn is_no(answer: Answer) -> bool
         Answer::Same => false,
         Answer::Factor(_) => false,
         Answer::Differ => false,
+        Answer::Mask(_) => false,
     }
 }
 

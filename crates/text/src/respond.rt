@@ -1,5 +1,5 @@
-// What a call does and answers (document 01, "Session calls"). Its line was read, so 1, 2, 4, 5 and 6 are past: "3 from
-// the left; 7; 8".
+// What a call does and answers (document 01, "Session calls"; document 02, `on`). Its line was read, so 1, 2, 4, 5 and 6
+// are past: "3 from the left; 7; 8".
 use crate::answer::Answer;
 use crate::call::Call;
 use crate::call::Refusal;
@@ -16,6 +16,7 @@ use diagram::node::Index;
 use diagram::registers;
 use diagram::registers::RegisterContent;
 use diagram::registers::RegisterNumber;
+use diagram::support;
 use diagram::value;
 ghost use mathlib.Core.Path.{_≡_};
 ghost use Rattle.diagram.specs.Store.{Sound};
@@ -151,6 +152,19 @@ pub(crate) fn cmp(engine: Engine, a: RegisterNumber, b: RegisterNumber) -> Reply
     Reply { answer, engine }
 }
 
+fn on(store: &[u8], engine: Engine, a: RegisterNumber) -> Reply
+    requires { ⌜ Sound (now store) (engine .state) ×
+        (RegistersValid (engine .state .count) (engine .registers .all) × InRange (call.On a)) ⌝ }
+    ensures { λ r. ⌜ ReadEnsures (now (store .entry)) engine (call.On a) r ⌝ }
+{
+    let RegisterContent::Edge(x) = registers::get(engine.registers, a) else {
+        return engine::refuse(engine, Refusal::Empty);
+    };
+    let m = support::support(store, engine.state, x);
+    let answer = Answer::Mask(m as usize);
+    Reply { answer, engine }
+}
+
 pub(crate) fn respond(store: &mut [u8], cache: &mut [u64], engine: Engine, call: Call) -> Reply
     requires { ⌜ EngineInvariant (now cache) (now store) engine × InRange call ⌝ }
     ensures { λ r. ⌜ RespondEnsures (now (cache .exit)) (now (store .entry)) (now (store .exit)) engine call r ⌝ }
@@ -166,6 +180,7 @@ pub(crate) fn respond(store: &mut [u8], cache: &mut [u64], engine: Engine, call:
         Call::Collect => collect(store, cache, engine),
         Call::At(a, v) => at(store, engine, a, v),
         Call::Cmp(a, b) => cmp(engine, a, b),
+        Call::On(a) => on(store, engine, a),
         Call::Refused(r) => engine::refuse(engine, r),
     }
 }

@@ -15,6 +15,7 @@ pub enum Word {
     Collect,
     At,
     Cmp,
+    On,
     Unknown,
 }
 
@@ -30,6 +31,7 @@ pub(crate) fn read(s: &[u8]) -> Word
     ensures { λ r. ⌜ r ≡ wordOf (now (s .entry)) ⌝ }
 {
     let w = Word::Unknown;
+    let w = choose(s, b"on", Word::On, w);
     let w = choose(s, b"cmp", Word::Cmp, w);
     let w = choose(s, b"at", Word::At, w);
     let w = choose(s, b"collect", Word::Collect, w);

@@ -3,7 +3,7 @@
 //! "Node n fills the store's bytes 16(n-1) to 16n-1, the places of its fields being the builder's."
 //! The engine's are two bytes each, low byte first: field 0 is index + 256 * low weight + 512 *
 //! (high weight / 65536), field 1 the low node, field 2 the high weight % 65536, field 3 the high
-//! node.
+//! node, field 6 the mask % 65536, field 7 the mask / 65536.
 
 use tally::tensor::{Tensor, INDICES};
 
@@ -13,6 +13,7 @@ pub struct Node {
     /// Weight and node.
     pub low: (u32, usize),
     pub high: (u32, usize),
+    pub mask: u32,
 }
 
 pub fn node(store: &[u8], n: usize) -> Node {
@@ -23,6 +24,7 @@ pub fn node(store: &[u8], n: usize) -> Node {
         index: packed % 256,
         low: (packed / 256 % 2, field(1) as usize),
         high: (field(2) + 65_536 * (packed / 512 % 2), field(3) as usize),
+        mask: field(6) + 65_536 * field(7),
     }
 }
 
@@ -38,7 +40,8 @@ pub fn tensors(store: &[u8], count: usize) -> Result<Vec<Tensor>, String> {
 }
 
 /// "At 0 and 1 of its index a node's tensor is the low and high weight times the tensor of that
-/// edge's node; it is normal."
+/// edge's node; it is normal." Its record "carries the mask of the indices on which its tensor
+/// depends".
 fn tensor(node: &Node, before: &[Tensor]) -> Result<Tensor, &'static str> {
     if node.index >= INDICES {
         return Err("no such index");
@@ -52,11 +55,16 @@ fn tensor(node: &Node, before: &[Tensor]) -> Result<Tensor, &'static str> {
         return Err("an edge leads to an index that is not above its own");
     }
     let t = Tensor::split(node.index, &low, &high);
-    match t.top() {
-        Some(top) if top == node.index && t.is_normal() => Ok(t),
-        Some(_) if !t.is_normal() => Err("not normal"),
-        _ => Err("low and high are equal"),
+    if t.top() != Some(node.index) {
+        return Err("low and high are equal");
     }
+    if !t.is_normal() {
+        return Err("not normal");
+    }
+    if node.mask != t.mask() {
+        return Err("not the mask of its tensor");
+    }
+    Ok(t)
 }
 
 /// A weight times a node's tensor. "Zero is weight 0 at node 0."

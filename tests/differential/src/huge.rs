@@ -31,13 +31,14 @@ pub fn make(rng: &mut Rng) -> Case {
     }
 }
 
-/// Adds constants to register d, each time new nodes, until they do not fit.
+/// Adds constants to register d, each time new nodes, until full, and asks for its mask.
 fn grow(draft: &mut Draft, d: usize) {
     while draft.tally.peak <= draft.tally.capacity {
         let w = draft.rng.below(65_537);
         draft.say(&format!("put 1 {w}"));
         draft.say(&format!("add {d} {d} 1"));
     }
+    draft.say(&format!("on {d}"));
 }
 
 /// Register 0 becomes a tensor over ten indices with about a thousand nodes: a sum of gates, each

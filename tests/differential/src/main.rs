@@ -1,5 +1,5 @@
-//! Seeded sessions and verdicts: the engine, with nodes, against document 01's tally, with plain
-//! tables.
+//! Seeded sessions and verdicts: the engine, with nodes, against the documents' tally, with
+//! plain tables.
 
 mod case;
 mod check;

@@ -23,6 +23,8 @@ pub fn repeats(draft: &mut Draft) {
         let v = draft.rng.below(1 << (3 * n));
         draft.say(&format!("at {a} {v}"));
         release(draft);
+        let kept = draft.filled();
+        draft.say(&format!("on {kept}"));
     }
 }
 
@@ -84,6 +86,8 @@ pub fn refused(rng: &mut Rng) -> (Vec<u8>, usize) {
     let before = draft.tally.set.count();
     draft.say(&calls[0]);
     let after = draft.tally.set.count().max(before + 1);
+    let a = draft.rng.between(0, 3);
+    draft.say(&format!("on {a}"));
     for _ in 0..draft.rng.between(1, 2) {
         let gate = random_gate(draft.rng, 3, false);
         draft.gate(4, &gate);

@@ -86,7 +86,7 @@ fn calls(draft: &mut Draft) {
 /// One random call. Qubits are `base` and those after it, as far as there are any.
 pub fn call(draft: &mut Draft, base: u32, n: u32) {
     let (d, a, b) = (draft.any(), draft.filled(), draft.filled());
-    match draft.rng.weighted(&[22, 4, 6, 14, 20, 12, 7, 7, 6, 10]) {
+    match draft.rng.weighted(&[22, 4, 6, 14, 20, 12, 7, 7, 6, 10, 6]) {
         0 => {
             let gate = random_gate(draft.rng, n, false);
             let gate = placed(draft.rng, gate, base);
@@ -115,7 +115,8 @@ pub fn call(draft: &mut Draft, base: u32, n: u32) {
             let v = draft.rng.below(1 << 24);
             draft.say(&format!("at {a} {v}"));
         }
-        _ => draft.say(&format!("cmp {a} {b}")),
+        9 => draft.say(&format!("cmp {a} {b}")),
+        _ => draft.say(&format!("on {a}")),
     }
 }
 
@@ -160,6 +161,7 @@ fn circuits(draft: &mut Draft) {
             draft.apply(gate, d, t);
         }
     }
+    draft.say("on 0");
     draft.say("cmp 0 1");
     if draft.rng.percent(50) {
         draft.say("collect");

@@ -3,17 +3,19 @@
 use crate::case::{Case, Kind};
 use crate::check::{collections, Expected};
 use std::collections::BTreeMap;
-use tally::call::Answer;
+use tally::call::{Answer, FULL};
 use tally::session::Run;
+use tally::text::{fields, lines};
 use tally::verdict::Ruling;
 
 /// What a run has to reach at least once. The numbers are those of `no`.
-const SESSION: [&str; 15] = [
+const SESSION: [&str; 16] = [
     "ok",
     "v",
     "same",
     "factor",
     "differ",
+    "m",
     "no 1",
     "no 2",
     "no 3",
@@ -24,6 +26,16 @@ const SESSION: [&str; 15] = [
     "no 8",
     "code 9",
     "collections that free",
+];
+/// Of the lines that call `on`: its answers, and masks right after a collection and a full store.
+const ON: [&str; 7] = [
+    "m 0",
+    "m above 65535",
+    "m after collect",
+    "m after no 8",
+    "no 1",
+    "no 2",
+    "no 3",
 ];
 const VERDICT: [&str; 10] = [
     "same", "factor", "differ", "no 8", "no 10", "no 11", "no 12", "no 13", "no 14", "code 9",
@@ -37,6 +49,7 @@ pub struct Stats {
     verdicts: u64,
     most_nodes: usize,
     session: BTreeMap<String, u64>,
+    on: BTreeMap<String, u64>,
     verdict: BTreeMap<String, u64>,
 }
 
@@ -64,6 +77,19 @@ impl Stats {
             .session
             .entry("collections that free".into())
             .or_default() += collections(&case.text, run);
+        self.note_on(&lines(&case.text), &run.answers);
+    }
+
+    fn note_on(&mut self, lines: &[&[u8]], answers: &[Answer]) {
+        for (i, answer) in answers.iter().enumerate() {
+            if fields(lines[i])[0] != b"on" {
+                continue;
+            }
+            let before = i.checked_sub(1).map(|j| (lines[j], &answers[j]));
+            for name in on_names(answer, before) {
+                *self.on.entry(name).or_default() += 1;
+            }
+        }
     }
 
     fn note_verdict(&mut self, ruling: Option<&Ruling>) {
@@ -80,11 +106,15 @@ impl Stats {
             .iter()
             .filter(|name| none(&self.session, name))
             .map(|name| format!("session {name}"));
+        let on = ON
+            .iter()
+            .filter(|name| none(&self.on, name))
+            .map(|name| format!("on {name}"));
         let verdicts = VERDICT
             .iter()
             .filter(|name| none(&self.verdict, name))
             .map(|name| format!("verdict {name}"));
-        sessions.chain(verdicts).collect()
+        sessions.chain(on).chain(verdicts).collect()
     }
 
     /// In words.
@@ -97,12 +127,13 @@ impl Stats {
         };
         format!(
             "{} sessions ({} of them compared after each line), {} lines, up to {} nodes\n  {}\n\
-             {} verdicts\n  {}",
+             \x20 on: {}\n{} verdicts\n  {}",
             self.sessions,
             self.stepwise,
             self.lines,
             self.most_nodes,
             listed(&SESSION, &self.session),
+            listed(&ON, &self.on),
             self.verdicts,
             listed(&VERDICT, &self.verdict)
         )
@@ -116,8 +147,28 @@ fn answer_name(answer: &Answer) -> String {
         Answer::Same => "same".into(),
         Answer::Factor(_) => "factor".into(),
         Answer::Differ => "differ".into(),
+        Answer::Mask(_) => "m".into(),
         Answer::No(number) => format!("no {number}"),
     }
+}
+
+/// What an answer to `on` is, and what it comes after.
+fn on_names(answer: &Answer, before: Option<(&[u8], &Answer)>) -> Vec<String> {
+    let Answer::Mask(mask) = *answer else {
+        return vec![answer_name(answer)];
+    };
+    let mut names = Vec::new();
+    match mask {
+        0 => names.push("m 0".into()),
+        65_536.. => names.push("m above 65535".into()),
+        _ => {}
+    }
+    match before {
+        Some((b"collect", _)) => names.push("m after collect".into()),
+        Some((_, Answer::No(FULL))) => names.push("m after no 8".into()),
+        _ => {}
+    }
+    names
 }
 
 fn ruling_name(ruling: Option<&Ruling>) -> String {

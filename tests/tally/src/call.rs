@@ -1,4 +1,4 @@
-//! The ten calls, and what a line is answered.
+//! The eleven calls, and what a line is answered.
 
 use crate::field::Weight;
 use crate::gate::Gate;
@@ -45,6 +45,9 @@ pub enum Call {
         a: usize,
         b: usize,
     },
+    On {
+        a: usize,
+    },
 }
 
 /// The number of a refused line.
@@ -66,6 +69,7 @@ pub enum Answer {
     Same,
     Factor(Weight),
     Differ,
+    Mask(u32),
     No(Refusal),
 }
 
@@ -78,6 +82,7 @@ impl Answer {
             Answer::Same => "same\n".to_string(),
             Answer::Factor(f) => format!("factor\t{f}\n"),
             Answer::Differ => "differ\n".to_string(),
+            Answer::Mask(mask) => format!("m\t{mask}\n"),
             Answer::No(number) => format!("no\t{number}\n"),
         };
         line.into_bytes()

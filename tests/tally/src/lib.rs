@@ -1,7 +1,8 @@
-//! Document 01's tally: sessions and verdicts with tensors as plain tables, without nodes.
+//! Document 01's tally, with document 02's call `on`: sessions and verdicts with tensors as plain
+//! tables, without nodes.
 //!
-//! It is written from the document alone, so that it can be held against the engine. Sentences in
-//! quotation marks are the document's.
+//! It is written from the documents alone, so that it can be held against the engine. Sentences in
+//! quotation marks are theirs.
 
 pub mod call;
 pub mod field;

@@ -34,7 +34,7 @@ fn kinds(word: &[u8], count: usize) -> Option<Vec<Kind>> {
         b"add" => &[Register, Register, Register],
         b"cont" => &[Register, Register, Register, MASK],
         b"low" => &[Register, Register, INDEX],
-        b"drop" => &[Register],
+        b"drop" | b"on" => &[Register],
         b"collect" => &[],
         b"at" => &[Register, MASK],
         b"cmp" => &[Register, Register],
@@ -117,6 +117,7 @@ fn assemble(fields: &[&[u8]], n: &[u32]) -> Call {
         b"drop" => Call::Drop { a: r(0) },
         b"collect" => Call::Collect,
         b"at" => Call::At { a: r(0), v: n[1] },
-        _ => Call::Cmp { a: r(0), b: r(1) },
+        b"cmp" => Call::Cmp { a: r(0), b: r(1) },
+        _ => Call::On { a: r(0) },
     }
 }

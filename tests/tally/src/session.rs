@@ -63,6 +63,8 @@ impl Tally {
             }
             Call::At { a, v } => Ok(Answer::Value(self.filled(a)?.at(v))),
             Call::Cmp { a, b } => Ok(compare(&self.filled(a)?, &self.filled(b)?)),
+            // "answers `m` and the register's mask, 0 for a constant"
+            Call::On { a } => Ok(Answer::Mask(self.filled(a)?.mask())),
         }
     }
 

@@ -32,13 +32,22 @@ impl Tensor {
         reduced(indices, values)
     }
 
-    /// The mask of the indices on which the tensor depends.
+    /// The indices of the table.
     pub fn support(&self) -> u32 {
         self.support
     }
 
+    /// Whether two assignments that differ at k alone have different values.
     pub fn depends(&self, k: u32) -> bool {
-        self.support >> k & 1 == 1
+        let stride = 1 << (self.support >> (k + 1)).count_ones();
+        let differs = |p: usize| self.values[p] != self.values[p ^ stride];
+        self.support >> k & 1 == 1 && (0..self.values.len()).any(differs)
+    }
+
+    /// "Bit k is set exactly when the tensor depends on index k."
+    pub fn mask(&self) -> u32 {
+        let depended = (0..INDICES).filter(|&k| self.depends(k));
+        depended.fold(0, |mask, k| mask | 1 << k)
     }
 
     pub fn is_constant(&self) -> bool {

@@ -1,10 +1,10 @@
-//! What document 01 states outright, and small cases worked out by hand.
+//! What the documents state outright, and small cases worked out by hand.
 
 use crate::call::Answer;
 use crate::field::{inverse, power, times, H, I, MODULUS, ROOT, ROOT_TWO};
 use crate::gate::{unit, Gate, Name};
 use crate::session::{session, Run};
-use crate::tensor::Tensor;
+use crate::tensor::{Tensor, INDICES};
 use crate::verdict::{verdict, Lists, Ruling};
 use crate::{capacity, matrix, rules, set::Set, text};
 
@@ -105,6 +105,70 @@ fn order_of_checks() {
     assert_eq!(answers(&lines, 9), expected);
 }
 
+/// The answer to `on 0` after these lines.
+fn mask(lines: &[&str]) -> String {
+    let mut answers = answers(&[lines, &["on 0"]].concat(), 2048);
+    answers.pop().unwrap()
+}
+
+#[test]
+fn masks_of_what_is_made() {
+    assert_eq!(mask(&["put 0 0"]), "m 0");
+    assert_eq!(mask(&["put 0 65536"]), "m 0");
+    assert_eq!(mask(&["gate 0 H 0"]), "m 6");
+    assert_eq!(mask(&["gate 0 Z 7"]), "m 12582912");
+    assert_eq!(mask(&["gate 0 CX 2 0"]), "m 390");
+    assert_eq!(mask(&["unit 0 2"]), "m 27");
+    assert_eq!(mask(&["unit 0 8"]), "m 7190235");
+}
+
+#[test]
+fn masks_of_what_is_left() {
+    assert_eq!(mask(&["gate 0 H 0", "low 0 0 1"]), "m 5");
+    assert_eq!(mask(&["gate 0 H 0", "low 0 0 1", "low 0 0 2"]), "m 3");
+    // Refused by 7, so H as it was.
+    assert_eq!(mask(&["gate 0 H 0", "low 0 0 2"]), "m 6");
+    // Summed over the fresh index: root two and 0; 1 and -1, whose square is 1; 1 and 1.
+    let over_fresh = |gate| [gate, "put 1 1", "cont 0 0 1 4"];
+    assert_eq!(mask(&over_fresh("gate 0 H 0")), "m 2");
+    assert_eq!(mask(&over_fresh("gate 0 Z 0")), "m 2");
+    let squared = [&over_fresh("gate 0 Z 0")[..], &["cont 0 0 0 0"]].concat();
+    assert_eq!(mask(&squared), "m 0");
+    assert_eq!(mask(&over_fresh("gate 0 X 0")), "m 0");
+    // -H + H
+    let zero = ["gate 0 H 0", "put 1 65536", "cont 1 0 1 0", "add 0 1 0"];
+    assert_eq!(mask(&zero), "m 0");
+    assert_eq!(mask(&["gate 0 H 0", "gate 1 H 1", "add 0 0 1"]), "m 54");
+    assert_eq!(mask(&["gate 0 H 0", "gate 1 H 0", "collect"]), "m 6");
+    assert_eq!(mask(&["gate 0 H 0", "drop 0", "collect"]), "no 3");
+}
+
+/// The unit has each qubit's input and middle, the gates its middle and fresh index.
+#[test]
+fn mask_of_every_index() {
+    let mut lines = vec!["unit 0 8"];
+    for gate in [
+        "gate 1 CX 0 1",
+        "gate 1 CX 2 3",
+        "gate 1 CX 4 5",
+        "gate 1 CX 6 7",
+    ] {
+        lines.extend([gate, "cont 0 1 0 0"]);
+    }
+    assert_eq!(mask(&lines), "m 16777215");
+}
+
+#[test]
+fn masks_refused() {
+    let lines = [
+        "put 0 1", "on", "on 0 0", "on 00", "on 16 0", "on 16", "on 1", "On 0", "on 0",
+    ];
+    let expected = [
+        "ok 0", "no 1", "no 1", "no 1", "no 1", "no 2", "no 3", "no 1", "m 0",
+    ];
+    assert_eq!(answers(&lines, 0), expected);
+}
+
 #[test]
 fn splitting() {
     assert_eq!(text::lines(b"").len(), 0);
@@ -130,6 +194,17 @@ fn tables_are_canonical() {
     assert_eq!(wide.plus(&wide.scaled(65_536)), Tensor::constant(0));
     let t = Tensor::from_fn(0b1110, |v| v + 1);
     assert!((0..32).all(|v| t.at(v) == (v & 0b1110) + 1));
+}
+
+/// A bit for each index at which a change alone changes a value.
+#[test]
+fn masks_by_assignments() {
+    let t = Tensor::from_fn(0b1011, |v| v & 1 | v >> 3);
+    for k in 0..INDICES {
+        let differs = (0..16).any(|v| t.at(v) != t.at(v ^ 1 << k));
+        assert_eq!(t.mask() >> k & 1 == 1, differs, "index {k}");
+    }
+    assert_eq!(t.mask(), 0b1001);
 }
 
 #[test]

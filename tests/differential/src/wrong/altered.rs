@@ -18,6 +18,8 @@ pub enum Alteration {
     NodeWeight,
     NodeEdge,
     NodeIndex,
+    NodeMaskLow,
+    NodeMaskHigh,
     NodesExchanged,
     VerdictCode,
     VerdictBytes,
@@ -27,7 +29,7 @@ pub enum Alteration {
 
 use Alteration::*;
 
-pub const ALTERATIONS: [(Alteration, &str); 18] = [
+pub const ALTERATIONS: [(Alteration, &str); 20] = [
     (Code, "another code"),
     (Lines, "another count of lines"),
     (Bytes, "another count of bytes"),
@@ -41,6 +43,8 @@ pub const ALTERATIONS: [(Alteration, &str); 18] = [
     (NodeWeight, "a node's high weight in the store"),
     (NodeEdge, "a node's low edge in the store"),
     (NodeIndex, "a node's index in the store"),
+    (NodeMaskLow, "the first bit of a node's mask in the store"),
+    (NodeMaskHigh, "a bit after a node's mask in the store"),
     (NodesExchanged, "two nodes exchanged in the store"),
     (VerdictCode, "another code of a verdict"),
     (VerdictBytes, "another count of a verdict's bytes"),
@@ -97,6 +101,8 @@ impl Altered {
             NodeWeight => store[last + 4] ^= 1,
             NodeEdge => store[last + 2] ^= 1,
             NodeIndex => store[last] ^= 1,
+            NodeMaskLow => store[last + 12] ^= 1,
+            NodeMaskHigh => store[last + 15] ^= 1,
             NodesExchanged => {
                 for i in last..last + 16 {
                     store.swap(i, i - 16);

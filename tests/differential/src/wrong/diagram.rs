@@ -31,6 +31,20 @@ pub enum Blunder {
     StopsEarly,
     /// "A verdict stuck at `same`"
     StuckAtSame,
+    /// A record's mask lacks the node's own index.
+    OwnIndexUnmasked,
+    /// A record's mask lacks what the high edge leads to.
+    HighUnmasked,
+    /// A collection leaves masks at their places, though `on` is answered right.
+    MasksUnmoved,
+    /// A node gets the mask that a refused call left at its place.
+    MasksOfRefused,
+    /// `on` is answered without the top.
+    TopUnmasked,
+    /// `on` answers 0 for an empty register.
+    EmptyMasked,
+    /// `low` tests k in place of k-1.
+    ClashAtIndex,
 }
 
 #[derive(Clone, Copy, Debug, PartialEq, Eq, Hash)]
@@ -58,6 +72,8 @@ pub const ZERO: Edge = Edge { weight: 0, node: 0 };
 pub struct Diagram {
     pub blunder: Blunder,
     pub nodes: Vec<Node>,
+    /// The masks in the nodes' records.
+    pub masks: Vec<u32>,
     places: HashMap<Node, usize>,
     remembered: HashMap<Key, Edge>,
 }
@@ -67,6 +83,7 @@ impl Diagram {
         Diagram {
             blunder,
             nodes: Vec::new(),
+            masks: Vec::new(),
             places: HashMap::new(),
             remembered: HashMap::new(),
         }
@@ -74,6 +91,7 @@ impl Diagram {
 
     pub fn clear(&mut self) {
         self.nodes.clear();
+        self.masks.clear();
         self.places.clear();
         self.forget(Blunder::StaleAfterSession);
     }
@@ -118,7 +136,7 @@ impl Diagram {
         let next = self.nodes.len() + 1;
         let place = *self.places.entry(node).or_insert(next);
         if place == next {
-            self.nodes.push(node);
+            self.push(node);
         }
         scaled(
             Edge {
@@ -127,6 +145,25 @@ impl Diagram {
             },
             w,
         )
+    }
+
+    /// A node at the next place, where a blunder may have left a mask.
+    fn push(&mut self, node: Node) {
+        let mask = self.mask(&node);
+        self.nodes.push(node);
+        if self.masks.len() < self.nodes.len() {
+            self.masks.push(mask);
+        }
+    }
+
+    fn mask(&self, node: &Node) -> u32 {
+        let of = |e: Edge| e.node.checked_sub(1).map_or(0, |i| self.masks[i]);
+        let (own, low, high) = (1 << node.index, of(node.low), of(node.high));
+        match self.blunder {
+            Blunder::OwnIndexUnmasked => low | high,
+            Blunder::HighUnmasked => own | low,
+            _ => own | low | high,
+        }
     }
 
     /// Both halves of a recursion, low first.
@@ -255,6 +292,9 @@ impl Diagram {
             return;
         }
         self.nodes.truncate(count);
+        if self.blunder != Blunder::MasksOfRefused {
+            self.masks.truncate(count);
+        }
         self.places.retain(|_, n| *n <= count);
         self.forget(Blunder::StaleAfterRefusal);
     }
@@ -272,7 +312,16 @@ impl Diagram {
         {
             self.reach(n, &mut reached);
         }
-        let mut moved = vec![0; self.nodes.len() + 1];
+        let moved = self.close_gaps(&reached);
+        for e in registers.iter_mut().flatten() {
+            e.node = moved[e.node];
+        }
+        self.forget(Blunder::StaleAfterCollection);
+    }
+
+    /// The place that each node has then.
+    fn close_gaps(&mut self, reached: &[bool]) -> Vec<usize> {
+        let mut moved = vec![0; reached.len()];
         let old = std::mem::take(&mut self.nodes);
         self.places.clear();
         for (n, node) in (1..).zip(old) {
@@ -289,12 +338,13 @@ impl Diagram {
                 self.nodes.push(node);
                 moved[n] = self.nodes.len();
                 self.places.insert(node, moved[n]);
+                if self.blunder != Blunder::MasksUnmoved {
+                    self.masks[moved[n] - 1] = self.masks[n - 1];
+                }
             }
         }
-        for e in registers.iter_mut().flatten() {
-            e.node = moved[e.node];
-        }
-        self.forget(Blunder::StaleAfterCollection);
+        self.masks.truncate(self.nodes.len());
+        moved
     }
 
     fn reach(&self, n: usize, reached: &mut [bool]) {

@@ -6,10 +6,11 @@ use crate::engine::{self, Engine, Session, Verdict};
 use tally::call::{Answer, Call, Refusal, CLASH, EMPTY, FULL};
 use tally::field::{inverse, times};
 use tally::gate::{self, fresh, middle, Gate};
+use tally::tensor::INDICES;
 use tally::verdict::{read, Fault, Ruling};
 use tally::{capacity, line, text};
 
-pub const BLUNDERS: [(Blunder, &str); 12] = [
+pub const BLUNDERS: [(Blunder, &str); 19] = [
     (
         Blunder::StaleAfterCollection,
         "a remembered result after a collection",
@@ -31,6 +32,19 @@ pub const BLUNDERS: [(Blunder, &str); 12] = [
     (Blunder::FullEarly, "full too early"),
     (Blunder::StopsEarly, "9 too early"),
     (Blunder::StuckAtSame, "a verdict stuck at same"),
+    (
+        Blunder::OwnIndexUnmasked,
+        "a node's mask without its own index",
+    ),
+    (
+        Blunder::HighUnmasked,
+        "a node's mask without its high edge's",
+    ),
+    (Blunder::MasksUnmoved, "masks not moved by a collection"),
+    (Blunder::MasksOfRefused, "masks of a refused call kept"),
+    (Blunder::TopUnmasked, "on without the top"),
+    (Blunder::EmptyMasked, "on answered for an empty register"),
+    (Blunder::ClashAtIndex, "7 where a depends on k"),
 ];
 
 pub struct Model {
@@ -78,7 +92,8 @@ impl Model {
             }
             Call::Low { d, a, k } => {
                 let a = self.filled(a)?;
-                if self.depends(a, k - 1) {
+                let taken = k - u32::from(!self.has(Blunder::ClashAtIndex));
+                if self.depends(a, taken) {
                     return Err(CLASH);
                 }
                 self.set(d, |g| g.low(a, k))
@@ -94,6 +109,7 @@ impl Model {
             }
             Call::At { a, v } => Ok(Answer::Value(self.at(self.filled(a)?, v))),
             Call::Cmp { a, b } => Ok(compare(self.filled(a)?, self.filled(b)?)),
+            Call::On { a } => self.on(a),
         }
     }
 
@@ -124,6 +140,17 @@ impl Model {
         let node = self.diagram.nodes[e.node - 1];
         node.index == k
             || node.index < k && (self.depends(node.low, k) || self.depends(node.high, k))
+    }
+
+    /// Not by the records' masks, so that a wrong one shows in the store alone.
+    fn on(&self, a: usize) -> Result<Answer, Refusal> {
+        if self.has(Blunder::EmptyMasked) && self.registers[a].is_none() {
+            return Ok(Answer::Mask(0));
+        }
+        let e = self.filled(a)?;
+        let first = u32::from(self.has(Blunder::TopUnmasked));
+        let above = (self.diagram.top(e) + first..INDICES).filter(|&k| self.depends(e, k));
+        Ok(Answer::Mask(above.fold(0, |mask, k| mask | 1 << k)))
     }
 
     fn at(&self, mut e: Edge, v: u32) -> u32 {
@@ -180,19 +207,21 @@ fn compare(a: Edge, b: Edge) -> Answer {
     }
 }
 
-/// A node's record; the rest of its 16 bytes is left dirty.
-fn write(store: &mut [u8], n: usize, node: &Node) {
+/// A node's record; fields 4 and 5 are left dirty.
+fn write(store: &mut [u8], n: usize, node: &Node, mask: u32) {
     let record = &mut store[16 * (n - 1)..16 * n];
     let high = node.high.weight;
     let packed = node.index + 256 * (node.low.weight & 1) + 512 * (high >> 16);
     let fields = [
-        packed,
-        node.low.node as u32,
-        high & 0xFFFF,
-        node.high.node as u32,
+        (0, packed),
+        (1, node.low.node as u32),
+        (2, high & 0xFFFF),
+        (3, node.high.node as u32),
+        (6, mask & 0xFFFF),
+        (7, mask >> 16),
     ];
-    for (place, field) in record.chunks_mut(2).zip(fields) {
-        place.copy_from_slice(&(field as u16).to_le_bytes());
+    for (f, field) in fields {
+        record[2 * f..2 * f + 2].copy_from_slice(&(field as u16).to_le_bytes());
     }
 }
 
@@ -214,8 +243,9 @@ impl Engine for Model {
         }
         let count = self.diagram.nodes.len();
         // A wrong model may have more nodes than fit.
-        for (n, node) in (1..=store.len() / 16).zip(&self.diagram.nodes) {
-            write(store, n, node);
+        let masked = self.diagram.nodes.iter().zip(&self.diagram.masks);
+        for (n, (node, &mask)) in (1..=store.len() / 16).zip(masked) {
+            write(store, n, node, mask);
         }
         let shown = |e: Edge| engine::Edge {
             weight: e.weight.into(),

@@ -20,5 +20,6 @@ pub join-spec : {M : Type 1} → statement M
 join-spec =
     tie.close
     (tie.spec
-    (λ c κs. search needs) returns normalise-requires (λ c κs. search needs) (λ c. search needs) (λ c. search needs)
+    (λ c κs. search needs) returns (λ c κs. search needs) normalise-requires (λ c κs. search needs) (λ c. search needs)
+    (λ c. search needs)
     (λ c. search needs) returns-2 (λ c. search needs) returns-3)

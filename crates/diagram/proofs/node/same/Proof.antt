@@ -1,4 +1,4 @@
-use Rattle.diagram.specs.NodeLaws.{indices-differ, lows-differ, highs-decide}
+use Rattle.diagram.specs.NodeLaws.{indices-differ, lows-differ, highs-differ, masks-decide}
 use borrow.Author.Needs.{needs}
 use Rattle.diagram.proofs.node.same.Statement.{statement}
 use Rattle.diagram.proofs.node.same.Tie as tie
@@ -7,11 +7,14 @@ returns : tie.Need-returns
 returns c = search (needs, indices-differ)
 
 returns-2 : tie.Need-returns-2
-returns-2 c = search (needs, highs-decide)
+returns-2 c = search (needs, masks-decide)
 
 returns-3 : tie.Need-returns-3
-returns-3 c = search (needs, lows-differ)
+returns-3 c = search (needs, highs-differ)
+
+returns-4 : tie.Need-returns-4
+returns-4 c = search (needs, lows-differ)
 
 pub same-spec : {M : Type 1} → statement M
 same-spec =
-    tie.close (tie.spec returns (λ c κs. search needs) (λ c κs. search needs) returns-2 returns-3)
+    tie.close (tie.spec returns (λ c κs. search needs) (λ c κs. search needs) returns-2 returns-3 returns-4)

@@ -1,4 +1,4 @@
--- A word of fewer than 10 bytes, at most 5 digits and LF fit in 16 bytes.
+-- A word of fewer than 8 bytes, at most 8 digits and LF fit in 16 bytes.
 use borrow.Author.Needs.{needs}
 use Rattle.text.specs.AnswerLaws.{labelled-label, labelled-room, labelled-wrote}
 use Rattle.text.proofs.answer.pair.Statement.{statement}

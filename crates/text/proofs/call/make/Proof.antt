@@ -32,8 +32,11 @@ returns-9 : tie.Need-returns-9
 returns-9 c = rw (c .before .enum-told9 .given .1) (c .cmp .ensures)
 
 returns-10 : tie.Need-returns-10
+returns-10 c = rw (c .before .enum-told10 .given .1) (c .on .ensures)
+
+returns-11 : tie.Need-returns-11
 unfolding callOf
-returns-10 c = rw (c .enum-told10 .given .1)
+returns-11 c = rw (c .enum-told11 .given .1)
 
 pub make-spec : {M : Type 1} → statement M
 make-spec =
@@ -42,6 +45,6 @@ make-spec =
     (λ c. search needs) (λ c κs. search needs) (λ c. search needs) (λ c κs. search needs) (λ c. search needs)
     (λ c κs. search needs) (λ c. search needs) (λ c κs. search needs) (λ c. search needs) (λ c κs. search needs)
     (λ c. search needs) (λ c κs. search needs) (λ c. search needs) (λ c κs. search needs) (λ c. search needs)
-    (λ c κs. search needs) (λ c. search needs) (λ c κs. search needs) (λ c. search needs) returns returns-2 returns-3
-    returns-4 returns-5 returns-6 returns-7 returns-8 returns-9
-    returns-10)
+    (λ c κs. search needs) (λ c. search needs) (λ c κs. search needs) (λ c. search needs) (λ c κs. search needs)
+    (λ c. search needs) returns returns-2 returns-3 returns-4 returns-5 returns-6 returns-7 returns-8 returns-9
+    returns-10 returns-11)

@@ -1,5 +1,5 @@
 use borrow.Author.Needs.{needs}
-use Rattle.diagram.specs.InvariantLaws.{invariant-depends, lower-allowed}
+use Rattle.diagram.specs.InvariantLaws.{lower-allowed}
 use Rattle.text.specs.OperateLaws.{low-depends, low-ensures}
 use Rattle.text.proofs.operate.low.Statement.{statement}
 use Rattle.text.proofs.operate.low.Tie as tie
@@ -8,7 +8,7 @@ returns : tie.Need-returns
 returns c = search (needs, low-depends)
 
 lower-requires : tie.Need-lower-requires
-lower-requires c κs = (search (needs, invariant-depends), (search needs, (search needs, search (needs, lower-allowed))))
+lower-requires c κs = (search needs, (search needs, (search needs, search (needs, lower-allowed))))
 
 returns-2 : tie.Need-returns-2
 returns-2 c = search (needs, low-ensures)
@@ -18,5 +18,4 @@ low-spec =
     tie.close
     (tie.spec
     (λ c. search needs) (λ c κs. search needs) (λ c κs. search needs) (λ c. search needs) returns lower-requires
-    (λ c. search needs)
-    (λ c. search needs) returns-2)
+    (λ c. search needs) (λ c. search needs) returns-2)
