@@ -109,9 +109,10 @@ static void the_marked_cases(void) {
 /* ---- document 02 */
 
 static void masks(void) {
-    /* H on qubit 0 has indices 1 and 2; the unit has every qubit's input and middle */
-    CHECK(answers("put\t0\t7\non\t0\ngate\t0\tH\t0\non\t0\nunit\t1\t8\non\t1\n", STORE,
-                  "ok\t0\nm\t0\nok\t2\nm\t6\nok\t26\nm\t7190235\n"));
+    /* H on qubit 0 has indices 1 and 2; the unit has every qubit's input and middle, also where a collection has moved
+     * its nodes */
+    CHECK(answers("put\t0\t7\non\t0\ngate\t0\tH\t0\non\t0\nunit\t1\t8\non\t1\ndrop\t0\ncollect\non\t1\n", STORE,
+                  "ok\t0\nm\t0\nok\t2\nm\t6\nok\t26\nm\t7190235\nok\t26\nok\t24\nm\t7190235\n"));
     CHECK(answers("on\t0\t0\non\t16\non\t0\n", STORE, "no\t1\nno\t2\nno\t3\n"));
 }
 

@@ -45,7 +45,11 @@ class Document(unittest.TestCase):
     def test_masks(self):
         # H on qubit 0 has indices 1 and 2; the unit has every qubit's input and middle.
         text = b"put\t0\t7\non\t0\ngate\t0\tH\t0\non\t0\nunit\t1\t8\non\t1\n"
-        self.assertEqual(session(text).output, b"ok\t0\nm\t0\nok\t2\nm\t6\nok\t26\nm\t7190235\n")
+        expected = b"ok\t0\nm\t0\nok\t2\nm\t6\nok\t26\nm\t7190235\n"
+        self.assertEqual(session(text).output, expected)
+        # A collection moves the unit's nodes.
+        text += b"drop\t0\ncollect\non\t1\n"
+        self.assertEqual(session(text).output, expected + b"ok\t26\nok\t24\nm\t7190235\n")
         self.assertEqual(session(b"on\t0\t0\non\t16\non\t0\n").output, b"no\t1\nno\t2\nno\t3\n")
 
 

@@ -63,11 +63,13 @@ fn the_marked_verdicts() {
     assert_eq!(judge(b"lines\t1\nS\t0\n=\nZ\t0\n", 2048), Answer::Differ);
 }
 
-/// H on qubit 0 has indices 1 and 2; the unit has every qubit's input and middle.
+/// H on qubit 0 has indices 1 and 2; the unit has every qubit's input and middle, also where a
+/// collection has moved its nodes.
 #[test]
 fn masks() {
-    let text = b"put\t0\t7\non\t0\ngate\t0\tH\t0\non\t0\nunit\t1\t8\non\t1\n";
-    let expected = b"ok\t0\nm\t0\nok\t2\nm\t6\nok\t26\nm\t7190235\n";
+    let text =
+        b"put\t0\t7\non\t0\ngate\t0\tH\t0\non\t0\nunit\t1\t8\non\t1\ndrop\t0\ncollect\non\t1\n";
+    let expected = b"ok\t0\nm\t0\nok\t2\nm\t6\nok\t26\nm\t7190235\nok\t26\nok\t24\nm\t7190235\n";
     assert_eq!(answers(text, 2048), expected);
     let refused = b"on\t0\t0\non\t16\non\t0\n";
     assert_eq!(answers(refused, 2048), b"no\t1\nno\t2\nno\t3\n");

@@ -58,6 +58,7 @@ pub mod TensorScaleLaws
 pub mod SumOverLaws
 pub mod TabulateLaws
 pub mod BuildFixBelowLaws
+pub mod MaskBitsLaws
 pub mod SupportLaws
 -- Laws of the tally's steps
 pub mod SetsLaws
@@ -100,7 +101,6 @@ pub mod UnitLaws
 -- Laws of the cache and the operations
 pub mod CacheLaws
 pub mod MaskLaws
-pub mod MaskBitsLaws
 pub mod OperationLaws
 pub mod OperationHalvesLaws
 pub mod SumLaws

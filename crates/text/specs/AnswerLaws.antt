@@ -4,7 +4,7 @@ use Prim.Native.Nat.{ℕ, _+_, _≤_, _<_}
 use native.Mathlib.Omega.{arith}
 use lib.ListN.{length, length-append}
 use Rattle.text.specs.Text.{Bytes, LF, bytes}
-use Rattle.text.specs.Limits.{answerRoom, lastMask}
+use Rattle.text.specs.Limits.{answerRoom, lastWeight, lastMask}
 use Rattle.text.specs.Call.{refusalNumber}
 use Rattle.text.specs.Print.{WriteEnsures, decimal}
 use Rattle.text.specs.Answer.{labelledLine, lineOfFields, printed, SmallAnswer, AnswerWritten}
@@ -38,6 +38,9 @@ module _ (word : Bytes) (n : ℕ) (short : length word < 8) (small : n ≤ lastM
   unfolding labelledLine
   labelled-wrote h w v = wrote-then w v (omega (arith, size))
 
+pub weight-small : {n : ℕ} → n ≤ lastWeight → n ≤ lastMask
+weight-small p = omega arith
+
 refusal-small : (r : Refusal) → refusalNumber r ≤ lastMask
 refusal-small refusal.Malformed = omega arith
 refusal-small refusal.Register = omega arith
@@ -50,11 +53,11 @@ refusal-small refusal.Full = omega arith
 
 pub printed-short : (a : Answer) → SmallAnswer a → length (printed a) ≤ answerRoom
 unfolding printed lineOfFields labelledLine
-printed-short (Ok n) h = labelled-short (bytes "ok\t") n (omega arith) (omega arith)
+printed-short (Ok n) h = labelled-short (bytes "ok\t") n (omega arith) (weight-small h)
 printed-short (No r) h = labelled-short (bytes "no\t") (refusalNumber r) (omega arith) (refusal-small r)
-printed-short (Value w) h = labelled-short (bytes "v\t") w (omega arith) (omega arith)
+printed-short (Value w) h = labelled-short (bytes "v\t") w (omega arith) (weight-small h)
 printed-short Same h = omega arith
-printed-short (Factor f) h = labelled-short (bytes "factor\t") f (omega arith) (omega arith)
+printed-short (Factor f) h = labelled-short (bytes "factor\t") f (omega arith) (weight-small h)
 printed-short Differ h = omega arith
 printed-short (Mask m) h = labelled-short (bytes "m\t") m (omega arith) h
 

@@ -87,7 +87,7 @@ refuse-full-ensures {c'} {s} {s'} {e} b q f = record {
 pub never-full : {X : Type 0} (a : Answer) → isNo a ≡ false → a ≡ No Full → X
 never-full a p q = absurd (false≢true (sym p ∙ ap isNo q))
 
-pub nodes-unchanged : {s s' : List ℕ} (st st' : State) {rs rs' : List Register} → nodesOf s' st' ≡ nodesOf s st
+nodes-unchanged : {s s' : List ℕ} (st st' : State) {rs rs' : List Register} → nodesOf s' st' ≡ nodesOf s st
     → rs' ≡ rs
     → Unchanged s s' (st .count) (st' .count) rs rs'
 unfolding nodesOf

@@ -109,6 +109,11 @@ module _ {c s : List ℕ} {e : Engine} {r : Reply} (p : EngineInvariant c s e) w
     forgets = n;
   }
 
+  -- an operand is empty: 3, which is not as full
+  refused-empty : {x : Call} → (FullForgets c r → Forgets x c r) → RefuseEnsures e Empty r
+      → answer (atMost (capacity s)) x (tallyOf s e) ≡ refuse Empty (tallyOf s e) → RespondEnsures c s s e x r
+  refused-empty forgets f q = respond-refused (forgets (refused-forgets Empty (λ z. omega arith) f)) f q
+
   pub refused-line : {x : Call} {why : Refusal} → x ≡ call.Refused why → RefuseEnsures e why r
       → RespondEnsures c s s e x r
   unfolding answer
@@ -118,15 +123,15 @@ module _ {c s : List ℕ} {e : Engine} {r : Reply} (p : EngineInvariant c s e) w
       (f : RefuseEnsures e Empty r) where
     pub empty-add : {d b : ℕ} → RespondEnsures c s s e (call.Add d a b) r
     unfolding answer
-    empty-add = respond-refused (refused-forgets Empty (λ z. omega arith) f) f (operand-empty s e g _ q)
+    empty-add = refused-empty (λ k. k) f (operand-empty s e g _ q)
 
     pub empty-cont : {d b m : ℕ} → RespondEnsures c s s e (call.Cont d a b m) r
     unfolding answer
-    empty-cont = respond-refused (refused-forgets Empty (λ z. omega arith) f) f (operand-empty s e g _ q)
+    empty-cont = refused-empty (λ k. k) f (operand-empty s e g _ q)
 
     pub empty-low : {d k : ℕ} → RespondEnsures c s s e (call.Low d a k) r
     unfolding answer
-    empty-low = respond-refused (refused-forgets Empty (λ z. omega arith) f) f (operand-empty s e g _ q)
+    empty-low = refused-empty (λ k. k) f (operand-empty s e g _ q)
 
   -- the second operand
   module _ {a b : ℕ} {h g : RegisterContent} {x : Edge} (i : GetEnsures (e .registers .all) a h)
@@ -134,40 +139,30 @@ module _ {c s : List ℕ} {e : Engine} {r : Reply} (p : EngineInvariant c s e) w
       (j : GetEnsures (e .registers .all) b g) (q : g ≡ content.Empty) (f : RefuseEnsures e Empty r) where
     pub empty-add-2 : {d : ℕ} → RespondEnsures c s s e (call.Add d a b) r
     unfolding answer
-    empty-add-2 =
-        respond-refused (refused-forgets Empty (λ z. omega arith) f) f (operand s e i _ o ∙ operand-empty s e j _ q)
+    empty-add-2 = refused-empty (λ k. k) f (operand s e i _ o ∙ operand-empty s e j _ q)
 
     pub empty-cont-2 : {d m : ℕ} → RespondEnsures c s s e (call.Cont d a b m) r
     unfolding answer
-    empty-cont-2 =
-        respond-refused (refused-forgets Empty (λ z. omega arith) f) f (operand s e i _ o ∙ operand-empty s e j _ q)
+    empty-cont-2 = refused-empty (λ k. k) f (operand s e i _ o ∙ operand-empty s e j _ q)
 
 module _ {e : Engine} {r : Reply} {a : ℕ} {h : RegisterContent} (g : GetEnsures (e .registers .all) a h) where
   pub empty-drop : h ≡ content.Empty → RefuseEnsures e Empty r → PureEnsures e (call.Drop a) r
   unfolding answer
-  empty-drop q f = record {
-    on = λ s. record {
-      on = λ c p. respond-refused p (refused-forgets Empty (λ z. omega arith) f) f (operand-empty s e g _ q);
-    };
-  }
+  empty-drop q f =
+      record { on = λ s. record { on = λ c p. refused-empty p (λ k. k) f (operand-empty s e g _ q) } }
 
   pub empty-at : {s : List ℕ} {v : ℕ} → h ≡ content.Empty → RefuseEnsures e Empty r → ReadEnsures s e (call.At a v) r
   unfolding answer
-  empty-at {s} q f =
-      record { on = λ c p. respond-refused p (refused-forgets Empty (λ z. omega arith) f) f (operand-empty s e g _ q) }
+  empty-at {s} q f = record { on = λ c p. refused-empty p (λ k. k) f (operand-empty s e g _ q) }
 
   pub empty-on : {s : List ℕ} → h ≡ content.Empty → RefuseEnsures e Empty r → ReadEnsures s e (call.On a) r
   unfolding answer
-  empty-on {s} q f =
-      record { on = λ c p. respond-refused p (refused-forgets Empty (λ z. omega arith) f) f (operand-empty s e g _ q) }
+  empty-on {s} q f = record { on = λ c p. refused-empty p (λ k. k) f (operand-empty s e g _ q) }
 
   pub empty-cmp : {b : ℕ} → h ≡ content.Empty → RefuseEnsures e Empty r → PureEnsures e (call.Cmp a b) r
   unfolding answer
-  empty-cmp q f = record {
-    on = λ s. record {
-      on = λ c p. respond-refused p (refused-forgets Empty (λ z. omega arith) f) f (operand-empty s e g _ q);
-    };
-  }
+  empty-cmp q f =
+      record { on = λ s. record { on = λ c p. refused-empty p (λ k. k) f (operand-empty s e g _ q) } }
 
   pub empty-cmp-2 : {b : ℕ} {k : RegisterContent} {x : Edge} → h ≡ content.Edge x → GetEnsures (e .registers .all) b k
       → k ≡ content.Empty
@@ -177,8 +172,7 @@ module _ {e : Engine} {r : Reply} {a : ℕ} {h : RegisterContent} (g : GetEnsure
   empty-cmp-2 o j q f =
       record {
         on = λ s. record {
-          on = λ c p. respond-refused p (refused-forgets Empty (λ z. omega arith) f) f
-              (operand s e g _ o ∙ operand-empty s e j _ q);
+          on = λ c p. refused-empty p (λ k. k) f (operand s e g _ o ∙ operand-empty s e j _ q);
         };
       }
 

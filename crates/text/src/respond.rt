@@ -1,5 +1,5 @@
-// What a call does and answers (document 01, "Session calls"; document 02, `on`). Its line was read, so 1, 2, 4, 5 and 6
-// are past: "3 from the left; 7; 8".
+// What a call does and answers (document 01, "Session calls"; document 02, `on`). Its line was read, so 1, 2, 4, 5 and
+// 6 are past: "3 from the left; 7; 8".
 use crate::answer::Answer;
 use crate::call::Call;
 use crate::call::Refusal;

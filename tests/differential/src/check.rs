@@ -5,7 +5,6 @@ use crate::decode;
 use crate::engine::{Edge, Engine, Session};
 use crate::memory::Memory;
 use std::collections::HashSet;
-use tally::call::Answer;
 use tally::session::{session, Run, Tally};
 use tally::tensor::Tensor;
 use tally::verdict::{read, verdict, Ruling};
@@ -199,17 +198,4 @@ fn by_matrices(text: &[u8], ruling: Option<&Ruling>) -> Result<(), String> {
         (Some(ruling), Ok(lists)) if *ruling == matrix::compare(&lists) => Ok(()),
         (Some(ruling), _) => Err(format!("by matrices it is not {ruling:?}")),
     }
-}
-
-/// How often a collection took a node away.
-pub fn collections(text: &[u8], run: &Run) -> u64 {
-    let mut before = 0;
-    let mut freed = 0;
-    for (line, answer) in text::lines(text).into_iter().zip(&run.answers) {
-        if let Answer::Ok(count) = *answer {
-            freed += u64::from(line == b"collect" && count < before);
-            before = count;
-        }
-    }
-    freed
 }

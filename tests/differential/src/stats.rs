@@ -1,7 +1,7 @@
 //! How often each kind of answer was reached.
 
 use crate::case::{Case, Kind};
-use crate::check::{collections, Expected};
+use crate::check::Expected;
 use std::collections::BTreeMap;
 use tally::call::{Answer, FULL};
 use tally::session::Run;
@@ -27,11 +27,12 @@ const SESSION: [&str; 16] = [
     "code 9",
     "collections that free",
 ];
-/// Of the lines that call `on`: its answers, and masks right after a collection and a full store.
+/// Of the lines that call `on`: its answers, and masks right after nodes have moved and after a
+/// full store.
 const ON: [&str; 7] = [
     "m 0",
     "m above 65535",
-    "m after collect",
+    "m after a collection that frees",
     "m after no 8",
     "no 1",
     "no 2",
@@ -66,35 +67,42 @@ impl Stats {
         self.sessions += 1;
         self.stepwise += u64::from(case.stepwise);
         self.lines += run.answers.len() as u64;
-        for answer in &run.answers {
-            if let Answer::Ok(count) = *answer {
+        add(&mut self.session, "code 9", u64::from(run.code == 9));
+        let (mut count, mut before) = (0, Line::Other);
+        for (line, answer) in lines(&case.text).into_iter().zip(&run.answers) {
+            if fields(line)[0] == b"on" {
+                self.note_on(answer, before);
+            }
+            before = Line::of(line, answer, count);
+            let freed = u64::from(before == Line::Freeing);
+            add(&mut self.session, "collections that free", freed);
+            add(&mut self.session, &answer_name(answer), 1);
+            if let Answer::Ok(nodes) = *answer {
+                count = nodes;
                 self.most_nodes = self.most_nodes.max(count);
             }
-            *self.session.entry(answer_name(answer)).or_default() += 1;
         }
-        *self.session.entry("code 9".into()).or_default() += u64::from(run.code == 9);
-        *self
-            .session
-            .entry("collections that free".into())
-            .or_default() += collections(&case.text, run);
-        self.note_on(&lines(&case.text), &run.answers);
     }
 
-    fn note_on(&mut self, lines: &[&[u8]], answers: &[Answer]) {
-        for (i, answer) in answers.iter().enumerate() {
-            if fields(lines[i])[0] != b"on" {
-                continue;
-            }
-            let before = i.checked_sub(1).map(|j| (lines[j], &answers[j]));
-            for name in on_names(answer, before) {
-                *self.on.entry(name).or_default() += 1;
-            }
+    fn note_on(&mut self, answer: &Answer, before: Line) {
+        let Answer::Mask(mask) = *answer else {
+            return add(&mut self.on, &answer_name(answer), 1);
+        };
+        match mask {
+            0 => add(&mut self.on, "m 0", 1),
+            65_536.. => add(&mut self.on, "m above 65535", 1),
+            _ => {}
+        }
+        match before {
+            Line::Freeing => add(&mut self.on, "m after a collection that frees", 1),
+            Line::Full => add(&mut self.on, "m after no 8", 1),
+            Line::Other => {}
         }
     }
 
     fn note_verdict(&mut self, ruling: Option<&Ruling>) {
         self.verdicts += 1;
-        *self.verdict.entry(ruling_name(ruling)).or_default() += 1;
+        add(&mut self.verdict, &ruling_name(ruling), 1);
     }
 
     /// What was never reached.
@@ -152,23 +160,29 @@ fn answer_name(answer: &Answer) -> String {
     }
 }
 
-/// What an answer to `on` is, and what it comes after.
-fn on_names(answer: &Answer, before: Option<(&[u8], &Answer)>) -> Vec<String> {
-    let Answer::Mask(mask) = *answer else {
-        return vec![answer_name(answer)];
-    };
-    let mut names = Vec::new();
-    match mask {
-        0 => names.push("m 0".into()),
-        65_536.. => names.push("m above 65535".into()),
-        _ => {}
+/// What stands before a call.
+#[derive(Clone, Copy, PartialEq)]
+enum Line {
+    /// A collection that took a node away.
+    Freeing,
+    /// A line refused as full.
+    Full,
+    Other,
+}
+
+impl Line {
+    /// The line that got this answer, where `count` nodes stood before it.
+    fn of(line: &[u8], answer: &Answer, count: usize) -> Line {
+        match *answer {
+            Answer::Ok(left) if line == b"collect" && left < count => Line::Freeing,
+            Answer::No(FULL) => Line::Full,
+            _ => Line::Other,
+        }
     }
-    match before {
-        Some((b"collect", _)) => names.push("m after collect".into()),
-        Some((_, Answer::No(FULL))) => names.push("m after no 8".into()),
-        _ => {}
-    }
-    names
+}
+
+fn add(counts: &mut BTreeMap<String, u64>, name: &str, times: u64) {
+    *counts.entry(name.into()).or_default() += times;
 }
 
 fn ruling_name(ruling: Option<&Ruling>) -> String {

@@ -1,29 +1,25 @@
 -- Each arm prints what the definition prints in that case.
 use borrow.Author.Needs.{needs}
-use Prim.Native.Nat.{_≤_}
 use native.Mathlib.Omega.{arith}
-use Rattle.text.specs.Limits.{lastWeight}
 use Rattle.text.specs.Answer.{printed, lineOfFields, labelledLine}
+use Rattle.text.specs.AnswerLaws.{weight-small}
 use Rattle.text.proofs.answer.put.Statement.{statement}
 use Rattle.text.proofs.answer.put.Tie as tie
 
 pair-requires : tie.Need-pair-requires
 pair-requires c κs =
     let told = c .before .before .before .answer .given .1 in
-    let small : _ ≤ lastWeight = rw told at (c .before .before .before .before .before .before .pre .1) in
-    (omega arith, (omega arith, omega (arith, small)))
+    (omega arith, (omega arith, weight-small (rw told at (c .before .before .before .before .before .before .pre .1))))
 
 pair-requires-3 : tie.Need-pair-requires-3
 pair-requires-3 c κs =
     let told = c .before .before .before .answer3 .given .1 in
-    let small : _ ≤ lastWeight = rw told at (c .before .before .before .before .before .before .pre .1) in
-    (omega arith, (omega arith, omega (arith, small)))
+    (omega arith, (omega arith, weight-small (rw told at (c .before .before .before .before .before .before .pre .1))))
 
 pair-requires-4 : tie.Need-pair-requires-4
 pair-requires-4 c κs =
     let told = c .before .before .before .answer4 .given .1 in
-    let small : _ ≤ lastWeight = rw told at (c .before .before .before .before .before .before .pre .1) in
-    (omega arith, (omega arith, omega (arith, small)))
+    (omega arith, (omega arith, weight-small (rw told at (c .before .before .before .before .before .before .pre .1))))
 
 pair-requires-5 : tie.Need-pair-requires-5
 pair-requires-5 c κs =
