@@ -27,8 +27,8 @@ const SESSION: [&str; 16] = [
     "code 9",
     "collections that free",
 ];
-/// Of the lines that call `on`: its answers, and masks right after nodes have moved and after a
-/// full store.
+/// Of the lines that call `on`: its answers, and masks right after a collection that took nodes away
+/// and after a full store.
 const ON: [&str; 7] = [
     "m 0",
     "m above 65535",
@@ -160,7 +160,7 @@ fn answer_name(answer: &Answer) -> String {
     }
 }
 
-/// What stands before a call.
+/// What the line before a call was.
 #[derive(Clone, Copy, PartialEq)]
 enum Line {
     /// A collection that took a node away.
