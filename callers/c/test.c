@@ -1,5 +1,5 @@
-/* What document 01 prints and marks, document 02's masks, the edges of what may be lent, and every misuse that the
- * checked calls reject. */
+/* What document 01 prints and marks, document 02's masks and lowered sets, the edges of what may be lent, and every
+ * misuse that the checked calls reject. */
 #include "jorehyi.h"
 
 #include <stdio.h>
@@ -114,6 +114,21 @@ static void masks(void) {
     CHECK(answers("put\t0\t7\non\t0\ngate\t0\tH\t0\non\t0\nunit\t1\t8\non\t1\ndrop\t0\ncollect\non\t1\n", STORE,
                   "ok\t0\nm\t0\nok\t2\nm\t6\nok\t26\nm\t7190235\nok\t26\nok\t24\nm\t7190235\n"));
     CHECK(answers("on\t0\t0\non\t16\non\t0\n", STORE, "no\t1\nno\t2\nno\t3\n"));
+}
+
+static void lowered_sets(void) {
+    /* H on qubit 0 goes from the indices 1 and 2 to 0 and 1, as by two single calls, also after a collection */
+    CHECK(answers("gate\t0\tH\t0\nlows\t1\t0\t6\non\t1\nlow\t2\t0\t1\nlow\t2\t2\t2\ncmp\t1\t2\n", STORE,
+                  "ok\t2\nok\t4\nm\t3\nok\t5\nok\t5\nsame\n"));
+    CHECK(answers("gate\t0\tH\t0\nlows\t1\t0\t6\ndrop\t0\ncollect\ngate\t0\tH\t0\nlows\t0\t0\t6\ncmp\t0\t1\n", STORE,
+                  "ok\t2\nok\t4\nok\t4\nok\t2\nok\t4\nok\t4\nsame\n"));
+    /* four nodes are enough for the set, not for its indices one after the other */
+    CHECK(answers("gate\t0\tH\t0\nlows\t0\t0\t6\n", 64, "ok\t2\nok\t4\n"));
+    CHECK(answers("gate\t0\tH\t0\nlow\t0\t0\t1\nlow\t0\t0\t2\n", 64, "ok\t2\nok\t3\nno\t8\n"));
+    CHECK(answers("lows\t0\t0\nlows\t16\t0\t1\nlows\t0\t0\t1\nlows\t0\t0\t16777216\nlows\t0\t0\t2\n", 32,
+                  "no\t1\nno\t2\nno\t4\nno\t4\nno\t3\n"));
+    CHECK(answers("gate\t0\tH\t0\nlows\t0\t0\t4\nlows\t0\t0\t2\nlows\t0\t0\t0\n", 32,
+                  "ok\t2\nno\t7\nno\t8\nok\t2\n"));
 }
 
 /* ---- the edges */
@@ -405,6 +420,7 @@ int main(void) {
     the_printed_session();
     the_marked_cases();
     masks();
+    lowered_sets();
     empty_text();
     nothing_lent_at_all();
     session_output();

@@ -2,8 +2,8 @@
 
 >>> judge(b"lines\\t1\\nX\\t0\\nZ\\t0\\nX\\t0\\n=\\nZ\\t0\\n")
 Answer(kind='factor', factor=65536, fault=None, line=None)
->>> session(b"gate\\t0\\tH\\t0\\non\\t0\\n").output
-b'ok\\t2\\nm\\t6\\n'
+>>> session(b"gate\\t0\\tH\\t0\\non\\t0\\nlows\\t0\\t0\\t6\\non\\t0\\n").output
+b'ok\\t2\\nm\\t6\\nok\\t4\\nm\\t3\\n'
 
 session and verdict are the engine's two outer calls. They are proved, for every text and all lent memory of any
 length, to answer as the definitions say. This module lends them memory of its own for each call, so calls from several

@@ -1,5 +1,5 @@
-"""What document 01 prints and marks, document 02's masks, the edges of what may be lent, and every misuse that the
-module rejects."""
+"""What document 01 prints and marks, document 02's masks and lowered sets, the edges of what may be lent, and every
+misuse that the module rejects."""
 
 import ctypes
 import doctest
@@ -51,6 +51,25 @@ class Document(unittest.TestCase):
         text += b"drop\t0\ncollect\non\t1\n"
         self.assertEqual(session(text).output, expected + b"ok\t26\nok\t24\nm\t7190235\n")
         self.assertEqual(session(b"on\t0\t0\non\t16\non\t0\n").output, b"no\t1\nno\t2\nno\t3\n")
+
+    def test_lowered_sets(self):
+        # H on qubit 0 goes from the indices 1 and 2 to 0 and 1, as by two single calls, also after a collection.
+        text = b"gate\t0\tH\t0\nlows\t1\t0\t6\non\t1\nlow\t2\t0\t1\nlow\t2\t2\t2\ncmp\t1\t2\n"
+        self.assertEqual(session(text).output, b"ok\t2\nok\t4\nm\t3\nok\t5\nok\t5\nsame\n")
+        text = b"gate\t0\tH\t0\nlows\t1\t0\t6\ndrop\t0\ncollect\ngate\t0\tH\t0\nlows\t0\t0\t6\ncmp\t0\t1\n"
+        self.assertEqual(session(text).output, b"ok\t2\nok\t4\nok\t4\nok\t2\nok\t4\nok\t4\nsame\n")
+
+    def test_four_nodes_lower_a_set_but_not_its_indices_one_by_one(self):
+        together = b"gate\t0\tH\t0\nlows\t0\t0\t6\n"
+        self.assertEqual(session(together, capacity=4).output, b"ok\t2\nok\t4\n")
+        singly = b"gate\t0\tH\t0\nlow\t0\t0\t1\nlow\t0\t0\t2\n"
+        self.assertEqual(session(singly, capacity=4).output, b"ok\t2\nok\t3\nno\t8\n")
+
+    def test_refused_sets(self):
+        empty = b"lows\t0\t0\nlows\t16\t0\t1\nlows\t0\t0\t1\nlows\t0\t0\t16777216\nlows\t0\t0\t2\n"
+        self.assertEqual(session(empty, capacity=2).output, b"no\t1\nno\t2\nno\t4\nno\t4\nno\t3\n")
+        filled = b"gate\t0\tH\t0\nlows\t0\t0\t4\nlows\t0\t0\t2\nlows\t0\t0\t0\n"
+        self.assertEqual(session(filled, capacity=2).output, b"ok\t2\nno\t7\nno\t8\nok\t2\n")
 
 
 class Edges(unittest.TestCase):

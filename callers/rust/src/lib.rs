@@ -83,9 +83,10 @@ pub enum Answer {
 /// Answers the lines of a session, from no nodes and empty registers.
 ///
 /// ```
-/// let (mut store, mut out) = ([0; 32], [0; 64]);
-/// let result = jorehyi::session(b"gate\t0\tH\t0\non\t0\n", &mut store, &mut [], &mut out);
-/// assert_eq!(&out[..result.bytes as usize], b"ok\t2\nm\t6\n");
+/// let (mut store, mut out) = ([0; 64], [0; 64]);
+/// let text = b"gate\t0\tH\t0\non\t0\nlows\t0\t0\t6\non\t0\n";
+/// let result = jorehyi::session(text, &mut store, &mut [], &mut out);
+/// assert_eq!(&out[..result.bytes as usize], b"ok\t2\nm\t6\nok\t4\nm\t3\n");
 /// ```
 pub fn session(text: &[u8], store: &mut [u8], cache: &mut [u64], out: &mut [u8]) -> Session {
     let words = raw::session(text, store, cache, out);

@@ -1,4 +1,5 @@
-//! What document 01 prints and marks: the session shown whole, and the cases d to k. Document 02's masks.
+//! What document 01 prints and marks: the session shown whole, and the cases d to k. Document 02's masks and lowered
+//! sets.
 
 use jorehyi::{judge, session, Answer, Edge};
 
@@ -73,4 +74,32 @@ fn masks() {
     assert_eq!(answers(text, 2048), expected);
     let refused = b"on\t0\t0\non\t16\non\t0\n";
     assert_eq!(answers(refused, 2048), b"no\t1\nno\t2\nno\t3\n");
+}
+
+/// H on qubit 0 goes from the indices 1 and 2 to 0 and 1, as by two single calls, also after a
+/// collection.
+#[test]
+fn lowered_sets() {
+    let text = b"gate\t0\tH\t0\nlows\t1\t0\t6\non\t1\nlow\t2\t0\t1\nlow\t2\t2\t2\ncmp\t1\t2\n";
+    let expected = b"ok\t2\nok\t4\nm\t3\nok\t5\nok\t5\nsame\n";
+    assert_eq!(answers(text, 2048), expected);
+    let text = b"gate\t0\tH\t0\nlows\t1\t0\t6\ndrop\t0\ncollect\ngate\t0\tH\t0\nlows\t0\t0\t6\ncmp\t0\t1\n";
+    let expected = b"ok\t2\nok\t4\nok\t4\nok\t2\nok\t4\nok\t4\nsame\n";
+    assert_eq!(answers(text, 2048), expected);
+}
+
+#[test]
+fn four_nodes_lower_a_set_but_not_its_indices_one_by_one() {
+    let together = b"gate\t0\tH\t0\nlows\t0\t0\t6\n";
+    assert_eq!(answers(together, 4), b"ok\t2\nok\t4\n");
+    let singly = b"gate\t0\tH\t0\nlow\t0\t0\t1\nlow\t0\t0\t2\n";
+    assert_eq!(answers(singly, 4), b"ok\t2\nok\t3\nno\t8\n");
+}
+
+#[test]
+fn refused_sets() {
+    let empty = b"lows\t0\t0\nlows\t16\t0\t1\nlows\t0\t0\t1\nlows\t0\t0\t16777216\nlows\t0\t0\t2\n";
+    assert_eq!(answers(empty, 2), b"no\t1\nno\t2\nno\t4\nno\t4\nno\t3\n");
+    let filled = b"gate\t0\tH\t0\nlows\t0\t0\t4\nlows\t0\t0\t2\nlows\t0\t0\t0\n";
+    assert_eq!(answers(filled, 2), b"ok\t2\nno\t7\nno\t8\nok\t2\n");
 }

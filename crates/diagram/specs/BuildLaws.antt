@@ -18,7 +18,7 @@ use Rattle.diagram.specs.Tally.{Set, Step, join, build}
 use Rattle.diagram.specs.Sets.{PrefixOf}
 use Rattle.diagram.specs.SetsLaws.{prefix-trans}
 use Rattle.diagram.specs.TallyStepLaws.{writes-grows, writes-again}
-use Rattle.diagram.specs.TallyBuildLaws.{build-writes, build-meaning}
+use Rattle.diagram.specs.TallyBuildLaws.{build-is, build-writes}
 use Rattle.diagram.specs.TallyPartsLaws.{build-weight, build-joined, fix-tabulate}
 use Rattle.diagram.specs.Meaning.{Valid}
 use Rattle.diagram.specs.MeaningLaws.{valid-more}
@@ -61,9 +61,6 @@ built-constant {s} {st} w h p =
     ∙ ap (λ T. (T, setOf s st)) (sym (constant-tensor w h)))
 
 -- what was built
-
-pub build-is : {d : ℕ} (T : Tensor d) (z : Set d) → build T z ≡ (T, build T z .1)
-build-is T z = ap (λ X. (X, build T z .1)) (build-meaning T z)
 
 pub built-tensor : {s s' : List ℕ} {st st' : State} {e : Edge} (T : Tensor indices)
     → RefinesEdge s s' st st' (build T) e → tensorOf s' st' e ≡ T

@@ -7,7 +7,8 @@ use Prim.Native.Nat.{ℕ, _+_, _*_, _≤_, _<_}
 use lib.ListN.{length, getD, set}
 use Rattle.field.specs.Weight.{modulus, toWeight}
 use Rattle.diagram.specs.Tensor.{Tensor, scale, bits, indices, masks}
-use Rattle.diagram.specs.Tally.{Step, sum, cont, low}
+use Rattle.diagram.specs.Tally.{Step, sum, cont}
+use Rattle.diagram.specs.Lows.{lows}
 use Rattle.diagram.specs.TallyStep.{Writes}
 use Rattle.diagram.specs.Meaning.{tensorAt, Valid}
 use Rattle.diagram.specs.Store.{setOf, tensorOf}
@@ -15,7 +16,7 @@ use Rattle.diagram.specs.declared.node.Edge.{Edge}
 use Rattle.diagram.specs.declared.make.State.{State}
 use Rattle.diagram.specs.declared.cache.Key.{Key}
 use Rattle.diagram.specs.declared.cache.Op.{Op}
-use Rattle.diagram.specs.declared.cache.Op.the-variants.{Sum, Contract, Lower}
+use Rattle.diagram.specs.declared.cache.Op.the-variants.{Sum, Contract, Lows}
 use Rattle.diagram.specs.declared.cache.LookupResult.{LookupResult}
 use Rattle.diagram.specs.declared.cache.LookupResult.the-variants.{Hit, Miss}
 
@@ -24,7 +25,7 @@ use Rattle.diagram.specs.declared.cache.LookupResult.the-variants.{Hit, 
 abbrev pub codeOf : Op → ℕ
 codeOf Sum = 0
 codeOf Contract = 1
-codeOf Lower = 2
+codeOf Lows = 2
 
 abbrev pub pack : Key → ℕ
 pack k = codeOf (k .op) * 4294967296 + k .left * 65536 + k .right
@@ -83,7 +84,7 @@ pub record AllEarlier (c : List ℕ) (epoch : ℕ) : Type 0 where
 unfoldable pub opStep : Op → Tensor indices → Tensor indices → ℕ → Step indices
 opStep Sum A B r = sum A (scale (toWeight r) B)
 opStep Contract A B r = cont A B (bits r)
-opStep Lower A B r = low r A
+opStep Lows A B r = lows (bits r) A
 
 unfoldable pub keyStep : List ℕ → State → Key → Step indices
 keyStep s st k = opStep (k .op) (tensorAt (setOf s st) (k .left)) (tensorAt (setOf s st) (k .right)) (k .arg)

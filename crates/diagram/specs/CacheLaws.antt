@@ -22,7 +22,7 @@ use Rattle.diagram.specs.declared.cache.Key.{Key}
 use Rattle.diagram.specs.declared.cache.LookupResult.{LookupResult}
 use Rattle.diagram.specs.declared.cache.LookupResult.the-variants.{Hit}
 use Rattle.diagram.specs.declared.cache.Op.{Op}
-use Rattle.diagram.specs.declared.cache.Op.the-variants.{Sum, Contract, Lower}
+use Rattle.diagram.specs.declared.cache.Op.the-variants.{Sum, Contract, Lows}
 
 pub lookup-is : {c : List ℕ} {epoch : ℕ} {k : Key} {e : Edge} (f : LookupResult) → LookupEnsures c epoch k f → f ≡ Hit e
     → HasEntry c epoch k e
@@ -88,13 +88,13 @@ key-eq p q r u = λ i. record { op = p i; left = q i; right = r i; arg = u i }
 code-eq : (a b : Op) → codeOf a ≡ codeOf b → a ≡ b
 code-eq Sum Sum e = refl
 code-eq Contract Contract e = refl
-code-eq Lower Lower e = refl
+code-eq Lows Lows e = refl
 code-eq Sum Contract e = absurd (omega arith)
-code-eq Sum Lower e = absurd (omega arith)
+code-eq Sum Lows e = absurd (omega arith)
 code-eq Contract Sum e = absurd (omega arith)
-code-eq Contract Lower e = absurd (omega arith)
-code-eq Lower Sum e = absurd (omega arith)
-code-eq Lower Contract e = absurd (omega arith)
+code-eq Contract Lows e = absurd (omega arith)
+code-eq Lows Sum e = absurd (omega arith)
+code-eq Lows Contract e = absurd (omega arith)
 
 module _ (c : List ℕ) (i k r t v : ℕ) (h : 4 * i + 4 ≤ length c) where
   entered-length : length (withEntry c i k r t v) ≡ length c

@@ -5,6 +5,7 @@ use mathlib.Core.Bool.{Bool, true, false, cond, _||_}
 use mathlib.Core.List.{List}
 use Prim.Native.Nat.{ℕ, zero, suc, _≤_, _<_}
 use native.Mathlib.Omega.{arith}
+use native.Mathlib.Nat.{le-refl}
 use Rattle.field.specs.Weight.{toWeight, 1W, timesW, Nonzero}
 use Rattle.field.specs.Field.{Represents}
 use Rattle.field.specs.RingLaws.{nonzero-weight, weight-one, weight-zero, one-nonzero, nonzero-not}
@@ -23,11 +24,10 @@ use Rattle.diagram.specs.TallyContLaws.{cont-meaning, cont-grows, cont-s
 use Rattle.diagram.specs.TallyCasesLaws.{cont-zero, cont-both}
 use Rattle.diagram.specs.TallyShareLaws.{two-nonzero, cont-constant, cont-below, scaled-trans, two-power}
 use Rattle.diagram.specs.Reach.{Covers}
-use Rattle.diagram.specs.CanonicalLaws.{sound-covers}
-use Rattle.diagram.specs.Meaning.{tensorAt, edgeIn, tensors}
+use Rattle.diagram.specs.Meaning.{tensorAt, edgeIn}
 use Rattle.diagram.specs.MeaningLaws.{at-zero}
-use Rattle.diagram.specs.Store.{nodesOf, setOf, tensorOf, Refines}
-use Rattle.diagram.specs.StoreLaws.{nodes-length, zero-edge, join-grows}
+use Rattle.diagram.specs.Store.{setOf, tensorOf, Refines}
+use Rattle.diagram.specs.StoreLaws.{zero-edge, join-grows}
 use Rattle.diagram.specs.EdgeLaws.{free-below-level, level-most, level-none}
 use Rattle.diagram.specs.Cache.{KeyFits, opStep, keyStep}
 use Rattle.diagram.specs.Mask.{MaskWithout, MaskFrom}
@@ -36,7 +36,7 @@ use Rattle.diagram.specs.Operation.{HighRequires, edgesMeasure, PartsGro
 use Rattle.diagram.specs.OperationLaws.{cached-stays, cached-step, cached-scaled}
 use Rattle.diagram.specs.Edge.{IsCofactor}
 use Rattle.diagram.specs.Join.{JoinRequires}
-use Rattle.diagram.specs.OperationHalvesLaws.{measure-same, inside, tops}
+use Rattle.diagram.specs.OperationHalvesLaws.{measure-same, inside, tops, edge-covers, one-tensor}
 use Rattle.diagram.specs.OperationHalvesLaws.{low-part-full, high-part-ready, high-part-measure, low-part-refines}
 use Rattle.diagram.specs.OperationHalvesLaws.{high-part-full, high-ready, high-joinable, high-part-refines}
 use Rattle.diagram.specs.SumLaws.{zero-tensor, nonzero-tensor}
@@ -120,10 +120,8 @@ module _ {c s : List ℕ} {st : State} {a b : Edge} {m k v rest : ℕ} (g : Oper
   -- a constant, and no index left: all that the other reaches is among the nodes, so nothing is put in
 
   covers : (n : ℕ) → n ≤ st .count → Covers (setOf s st) (tensorAt (setOf s st) n)
-  unfolding setOf
-  covers n q = rw (← scale-one (tensorAt (tensors indices (nodesOf s st)) n), ← weight-one)
-      (unfold edgeIn in sound-covers indices (nodesOf s st) (g .sound .nodes) (record { weight = 1; node = n })
-      (record { small = omega arith; within = omega (arith, nodes-length s st); zero = λ z. absurd (omega arith) }))
+  covers n q = rw (← one-tensor s st n) (edge-covers (g .sound)
+      (record { small = omega arith; within = q; zero = λ z. absurd (omega arith) }))
 
   node-edge : (n : ℕ)
       → scale (toWeight v) (scale 1W (tensorAt (setOf s st) n)) ≡ tensorOf s st (record { weight = v; node = n })
@@ -221,8 +219,9 @@ module _ {c s : List ℕ} {st : State} {a b : Edge} {m : ℕ} (g : OperationRequ
 
 pub contract-parts-at : {c s : List ℕ} {st : State} {a b : Edge} {k : ℕ} (m : ℕ) → OperationRequires c s st a b
     → k ≡ lowestOf s st a b
-    → PartsGrow (tensorOf s st a) (tensorOf s st b) k (contWithout k m) (combine k m)
+    → PartsGrow (tensorOf s st a) (tensorOf s st b) k k (contWithout k m) (combine k m)
 contract-parts-at {s = s} {st} {a} {b} {k} m g e = record {
+  not-above = le-refl k;
   rec-grows = λ x z. cont-grows _ _ _ z;
   final-grows = λ X Y z. final (bits m k) X Y z;
   rec-from = λ x z. rw (cont-meaning (fix k x (tensorOf s st a)) (fix k x (tensorOf s st b)) (without k (bits m)) z)
@@ -243,7 +242,7 @@ module _ {c s : List ℕ} {st : State} {a b a0 b0 : Edge} {m k r : ℕ} (g : Ope
   low-reduced : RefinesCached c₁ s s₁ st (contWithout k m (tensorOf s st a0) (tensorOf s st b0)) q
   low-reduced = rw (o .is) at w
 
-  v : PartsGrow (tensorOf s st a) (tensorOf s st b) k (contWithout k m) (combine k m)
+  v : PartsGrow (tensorOf s st a) (tensorOf s st b) k k (contWithout k m) (combine k m)
   v = contract-parts-at m g e
 
   pub contract-low-full : q ≡ outcome.Full
@@ -251,7 +250,7 @@ module _ {c s : List ℕ} {st : State} {a b a0 b0 : Edge} {m k r : ℕ} (g : Ope
   contract-low-full x = low-part-full g (inside g (p .some) e) e v (contract-whole g p e) ca cb c₁ s₁ q low-reduced x
 
   module _ {l : Edge} {t : State} (x : q ≡ outcome.Edge l t) where
-    pub contract-high-ready : HighRequires c₁ s₁ t a b k l
+    pub contract-high-ready : HighRequires c₁ s₁ t a b k k l
     contract-high-ready =
         high-part-ready g (inside g (p .some) e) e v (contract-whole g p e) ca cb c₁ s₁ q low-reduced x
 
@@ -266,14 +265,14 @@ module _ {c s : List ℕ} {st : State} {a b a0 b0 : Edge} {m k r : ℕ} (g : Ope
         low-part-refines g (inside g (p .some) e) e v (contract-whole g p e) ca cb c₁ s₁ q low-reduced x c₂ s₂ y h
 
 -- the high parts
-module _ {c s : List ℕ} {st : State} {a b a1 b1 l : Edge} {m k r : ℕ} (w : HighRequires c s st a b k l)
+module _ {c s : List ℕ} {st : State} {a b a1 b1 l : Edge} {m k r : ℕ} (w : HighRequires c s st a b k k l)
     (o : MaskWithout m k r)
     (ca : IsCofactor s st a k true a1) (cb : IsCofactor s st b k true b1) (c₁ s₁ : List ℕ) (q : Outcome)
     (h : RefinesCached c₁ s s₁ st (cont (tensorOf s st a1) (tensorOf s st b1) (bits r)) q) where
   high-reduced : RefinesCached c₁ s s₁ st (contWithout k m (tensorOf s st a1) (tensorOf s st b1)) q
   high-reduced = rw (o .is) at h
 
-  u : PartsGrow (tensorOf s st a) (tensorOf s st b) k (contWithout k m) (combine k m)
+  u : PartsGrow (tensorOf s st a) (tensorOf s st b) k k (contWithout k m) (combine k m)
   u = contract-parts-at m (w .ready) (w .lowest)
 
   pub contract-high-full : q ≡ outcome.Full

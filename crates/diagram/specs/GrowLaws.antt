@@ -102,7 +102,7 @@ module _ (m : ℕ) where
   unfolding depends
   grow-depends k A = rw (grow-fix k false A, grow-fix k true A) (ap not (grow-same (fix k false A) (fix k true A)))
 
-  deeper-more : (d : ℕ) → d ≤ deeper d m
+  pub deeper-more : (d : ℕ) → d ≤ deeper d m
   deeper-more zero = omega arith
   deeper-more (suc d) = omega (arith, deeper-more d)
 

@@ -6,12 +6,13 @@ use mathlib.Core.Option.{none, some}
 use Prim.Native.Nat.{ℕ, _-_, _≤_, _<_}
 use native.Mathlib.Omega.{arith}
 use lib.ListN.{getD, set}
-use Rattle.diagram.specs.Tensor.{indices, depends}
+use Rattle.diagram.specs.Tensor.{bits, indices, depends, masks}
 use Rattle.diagram.specs.Tally.{Set, Step}
 use Rattle.diagram.specs.Meaning.{edgeIn, tensors, appendTensors, Valid}
 use Rattle.diagram.specs.TopFreeLaws.{depends-free}
 use Rattle.diagram.specs.Top.{Free}
-use Rattle.diagram.specs.Lower.{LowerRequires}
+use Rattle.diagram.specs.Lower.{LowerRequires, LowsRequires}
+use Rattle.diagram.specs.Lows.{clash}
 use Rattle.diagram.specs.Sets.{PrefixOf}
 use Rattle.diagram.specs.Store.{nodesOf, setOf, tensorOf, RefinesEdge, Refines}
 use Rattle.diagram.specs.StoreLaws.{set-length}
@@ -151,6 +152,11 @@ pub lower-allowed : {s : List ℕ} {st : State} {e : Edge} {j k : ℕ} {r : Bool
 lower-allowed {s} {st} {e} {j} d q m first last =
     let free : Free j (tensorOf s st e) = depends-free j _ (sym d ∙ q) in
     record { first = first; last = last; free = rw m at free }
+
+-- a set of indices without 0 may go down in an edge where there is no clash
+pub lows-allowed : {s : List ℕ} {st : State} {e : Edge} {m : ℕ} {r : Bool} → r ≡ clash (bits m) (tensorOf s st e)
+    → r ≡ false → bits m 0 ≡ false → m < masks → LowsRequires s st e m
+lows-allowed d q z small = record { small = small; zero = z; no-clash = sym d ∙ q }
 
 -- the registers hold what they held, where nodes were put in
 pub holds-after : (s s' : List ℕ) (st t : State) {rs : List Register} → RegistersValid (st .count) rs

@@ -1,6 +1,7 @@
 -- The definitions and laws of diagrams.
 
--- What a reader must believe: document 01's tensors, tally, gates and comparison, document 02's masks
+-- What a reader must believe: document 01's tensors, tally, gates and comparison, document 02's masks and sets
+-- lowered together
 pub mod Weights
 pub mod Tensor
 pub mod Descend
@@ -9,6 +10,7 @@ pub mod Tabulate
 pub mod Gate
 pub mod Compare
 pub mod Support
+pub mod Lows
 -- What nodes and registers mean, what the store's bytes are, what holds between two calls
 pub mod Fields
 pub mod Node
@@ -42,6 +44,7 @@ pub mod Collect
 pub mod Top
 pub mod Sets
 pub mod SumOver
+pub mod Rename
 pub mod TallyStep
 pub mod Reach
 pub mod Grow
@@ -59,6 +62,7 @@ pub mod SumOverLaws
 pub mod TabulateLaws
 pub mod BuildFixBelowLaws
 pub mod MaskBitsLaws
+pub mod RenameLaws
 pub mod SupportLaws
 -- Laws of the tally's steps
 pub mod SetsLaws
@@ -75,9 +79,12 @@ pub mod TallyCollectLaws
 pub mod TallyCoverLaws
 pub mod TallyValueLaws
 pub mod TallySetAfterLaws
+pub mod TallyLowsLaws
+pub mod TallyLowsOneLaws
 pub mod GateLaws
 pub mod GrowLaws
 pub mod TallyGrowLaws
+pub mod TallyLowsGrowLaws
 pub mod CompareLaws
 -- Laws of the store: records, unique table, what nodes mean
 pub mod FieldsLaws

@@ -1,29 +1,32 @@
--- Laws of lowering in the store: what each of its cases gives.
+-- Laws of lowering in the store: what each of its cases gives; one index as a set.
 use mathlib.Core.Path.{_≡_, refl, ap, sym, _∙_}
 use mathlib.Core.Logic.{_≢_}
-use mathlib.Core.Bool.{Bool, true, false}
+use mathlib.Core.Bool.{Bool, true, false, not, true≢false}
 use mathlib.Core.List.{List}
 use mathlib.Core.Option.{some}
-use Prim.Native.Nat.{ℕ, suc, _-_, _≤_, _<_}
+use Prim.Native.Nat.{ℕ, _-_, _/_, _^_, _≤_, _<_}
 use native.Mathlib.Omega.{arith}
-use native.Mathlib.Decide.{ℕ-discrete}
+use lib.Bits.{bitAnd, and-zero-r}
+use lib.Dec.{eqb}
+use borrow.Author.Tests.{eqb-true, eqb-false}
 use Rattle.field.specs.Weight.{toWeight, Nonzero}
 use Rattle.field.specs.RingLaws.{nonzero-weight, weight-one}
-use Rattle.diagram.specs.Tensor.{Tensor, top, fix, indices, indices-count, renameDown, indexCount}
-use Rattle.diagram.specs.TensorLaws.{fix-scale, scale-one}
-use Rattle.diagram.specs.TopLaws.{top-depends}
-use Rattle.diagram.specs.TensorScaleLaws.{scale-cancel}
+use Rattle.diagram.specs.Tensor.{Tensor, bits, top, fix, indices, indices-count, indexCount, masks}
+use Rattle.diagram.specs.TensorLaws.{scale-one}
+use Rattle.diagram.specs.TestLaws.{cases}
 use Rattle.diagram.specs.Tally.{both, join, low}
 use Rattle.diagram.specs.TallyStepLaws.{writes-answer, writes-grows}
-use Rattle.diagram.specs.TallyStep.{ScaledStep, Writes}
-use Rattle.diagram.specs.TopFreeLaws.{free-fix}
-use Rattle.diagram.specs.Top.{Free}
-use Rattle.diagram.specs.TallyLowLaws.{low-writes, low-scaled, rename-down-part}
-use Rattle.diagram.specs.TallyCasesLaws.{low-constant, low-above, low-here, low-both}
+use Rattle.diagram.specs.TallyStep.{Writes, ScaledStep}
+use Rattle.diagram.specs.MaskBitsLaws.{power-less}
+use Rattle.diagram.specs.Support.{supportMask}
+use Rattle.diagram.specs.SupportStoreLaws.{support-leaf, masks-power}
+use Rattle.diagram.specs.Lows.{lowerIn, lows, clash}
+use Rattle.diagram.specs.TallyLowsLaws.{clash-exactly, clash-masks, clash-fix, clash-unscale, lows-writes}
+use Rattle.diagram.specs.TallyLowsLaws.{lows-scaled, lows-same, none-common, lowered-part, lows-both}
+use Rattle.diagram.specs.TallyLowsOneLaws.{one-zero, one-no-clash, one-low}
 use Rattle.diagram.specs.Meaning.{tensorAt, edgeIn, Valid}
-use Rattle.diagram.specs.MeaningLaws.{level-same}
 use Rattle.diagram.specs.Store.{setOf, tensorOf, levelOf, Sound, Refines}
-use Rattle.diagram.specs.EdgeLaws.{free-below-level, level-none, index-inside}
+use Rattle.diagram.specs.EdgeLaws.{index-inside}
 use Rattle.diagram.specs.Edge.{CofactorRequires, IsCofactor}
 use Rattle.diagram.specs.Join.{JoinRequires}
 use Rattle.diagram.specs.StoreLaws.{join-grows, tensor-kept}
@@ -31,34 +34,72 @@ use Rattle.diagram.specs.Cache.{KeyFits, opStep, keyStep}
 use Rattle.diagram.specs.Operation.{OperationRequires, RefinesCached, lowestOf, MultipleOutcome, highStep}
 use Rattle.diagram.specs.Operation.{HighRequires, edgesMeasure, PartsGrow}
 use Rattle.diagram.specs.OperationLaws.{cached-at, cached-stays, cached-step, cached-as, cached-scaled}
-use Rattle.diagram.specs.OperationHalvesLaws.{measure-same, top-node, top-leaf}
+use Rattle.diagram.specs.OperationHalvesLaws.{measure-same, top-node, edge-covers, one-tensor}
 use Rattle.diagram.specs.OperationHalvesLaws.{low-part-full, high-part-ready, high-part-measure, low-part-refines}
 use Rattle.diagram.specs.OperationHalvesLaws.{high-part-full, high-ready, high-joinable, high-part-refines}
-use Rattle.diagram.specs.Lower.{LowerRequires, LowerReduced, LowerHighRequires, lowFirst}
+use Rattle.diagram.specs.Lower.{LowerRequires, LowsRequires, LowsReduced, lowsFirst}
 use Rattle.diagram.specs.declared.node.Edge.{Edge}
 use Rattle.diagram.specs.declared.make.State.{State}
 use Rattle.diagram.specs.declared.cache.Op.the-variants as ops
 use Rattle.diagram.specs.declared.join.Outcome.{Outcome}
 use Rattle.diagram.specs.declared.join.Outcome.the-variants as outcome
 
-low-from : {k : ℕ} → 1 ≤ k → k ≤ 23 → (T : Tensor indices) → Free (k - 1) T → Writes (renameDown k T) (low k T)
-low-from {k} p q T f = low-writes k p (rw indices-count (omega arith)) T f
+-- one index, as a set
+module _ {c s : List ℕ} {st : State} {a : Edge} {k m : ℕ} (g : OperationRequires c s st a a)
+    (x : LowerRequires s st a k) (e : m ≡ 2 ^ k) where
+  below : k < indices
+  below = rw indices-count (omega (arith, x .last))
 
-module _ {c s : List ℕ} {st : State} {a : Edge} {k i : ℕ} (g : OperationRequires c s st a a)
-    (x : LowerRequires s st a k)
-    (level : i ≡ levelOf s st a) where
-  -- "If A's top is above k, or A is constant, A itself."
-  pub lower-above : k < i → RefinesCached c s s st (low k (tensorOf s st a)) (outcome.Edge a st)
-  lower-above p = cached-stays g (g .left) (go (ℕ-discrete (a .node) 0))
-    where
-      go : Dec (a .node ≡ 0) → low k (tensorOf s st a) (setOf s st) ≡ (tensorOf s st a, setOf s st)
-      go (yes z) = low-constant k _ _ (top-leaf (g .sound) a z)
-      go (no n) = low-above k _ _ (levelOf s st a) (top-node (g .sound) (g .left) n) (omega arith)
+  pub lower-as-set : LowsRequires s st a m
+  lower-as-set = record {
+    small = rw (e, ← masks-power) (power-less k indices below);
+    zero = rw e (one-zero k (x .first) below);
+    no-clash = rw e (one-no-clash k (x .first) below _ (x .free));
+  }
+
+  pub lower-refines : (c' s' : List ℕ) (r : Outcome) → RefinesCached c' s s' st (lows (bits m) (tensorOf s st a)) r
+      → RefinesCached c' s s' st (low k (tensorOf s st a)) r
+  lower-refines c' s' r w =
+      cached-as c' s s' st _ _ r
+      (one-low k (x .first) below _ (setOf s st) (x .free) (edge-covers (g .sound) (g .left))) (rw e at w)
+
+-- the test for 7, on the masks of m and of a
+pub clash-is : (s : List ℕ) (st : State) (a : Edge) {m u : ℕ} → m < masks → u ≡ supportMask (tensorOf s st a)
+    → not (eqb (bitAnd (bitAnd (m / 2) u) m) (bitAnd (m / 2) u)) ≡ clash (bits m) (tensorOf s st a)
+clash-is s st a {m} {u} small is = cases (eqb (bitAnd (bitAnd (m / 2) u) m) (bitAnd (m / 2) u)) apart clashes
+  where
+    within : m < 2 ^ indices
+    within = rw masks-power small
+
+    apart : eqb (bitAnd (bitAnd (m / 2) u) m) (bitAnd (m / 2) u) ≡ true
+        → not (eqb (bitAnd (bitAnd (m / 2) u) m) (bitAnd (m / 2) u)) ≡ clash (bits m) (tensorOf s st a)
+    apart q =
+        rw q (sym (clash-exactly (bits m) _ .1 (clash-masks m _ within .1 (rw (← is) (eqb-true _ _ q)))))
+
+    clashes : eqb (bitAnd (bitAnd (m / 2) u) m) (bitAnd (m / 2) u) ≡ false
+        → not (eqb (bitAnd (bitAnd (m / 2) u) m) (bitAnd (m / 2) u)) ≡ clash (bits m) (tensorOf s st a)
+    clashes q =
+        rw q (sym (cases (clash (bits m) (tensorOf s st a)) (λ y. y) (λ y. absurd (eqb-false _ _ q
+        (rw (← is) at (clash-masks m _ within .0 (clash-exactly (bits m) _ .0 y)))))))
+
+-- a part of an edge may go as the edge may
+pub lows-part : {s : List ℕ} {st : State} {a a' : Edge} {m k : ℕ} {b : Bool} → LowsRequires s st a m
+    → IsCofactor s st a k b a' → LowsRequires s st a' m
+lows-part {m = m} {k} {b} x p =
+    record { small = x .small; zero = x .zero; no-clash = rw (p .is) (clash-fix (bits m) _ k b (x .no-clash)) }
+
+module _ {c s : List ℕ} {st : State} {a : Edge} {m u : ℕ} (g : OperationRequires c s st a a) (x : LowsRequires s st a m)
+    (is : u ≡ supportMask (tensorOf s st a)) where
+  -- a depends on no index of m: a itself
+  pub lows-none : bitAnd m u ≡ 0 → RefinesCached c s s st (lows (bits m) (tensorOf s st a)) (outcome.Edge a st)
+  lows-none z =
+      cached-stays g (g .left)
+      (lows-same (bits m) _ (none-common m _ (rw (← is) z)) (setOf s st) (edge-covers (g .sound) (g .left)))
 
   -- the weight taken out
-  module _ (most : i ≤ k) where
+  module _ (some : bitAnd m u ≢ 0) where
     has-node : a .node ≢ 0
-    has-node z = omega (arith, level, x .last, level-none s st (g .sound) a z)
+    has-node z = some (rw (is ∙ sym (support-leaf s st a z)) (and-zero-r m))
 
     has-weight : a .weight ≢ 0
     has-weight z = has-node (g .left .zero z)
@@ -66,23 +107,9 @@ module _ {c s : List ℕ} {st : State} {a : Edge} {k i : ℕ} (g : OperationRequ
     wn : Nonzero (toWeight (a .weight))
     wn = nonzero-weight (a .weight) (g .left .small) has-weight
 
-    reduced-is : tensorOf s st (record { weight = 1; node = a .node }) ≡ tensorAt (setOf s st) (a .node)
-    unfolding tensorOf edgeIn
-    reduced-is = rw weight-one (scale-one _)
-
-    reduced-free : Free (k - 1) (tensorAt (setOf s st) (a .node))
-    unfolding tensorOf edgeIn
-    reduced-free =
-        let w = toWeight (a .weight) in
-        record { is = scale-cancel wn (sym (fix-scale (k - 1) false w _) ∙ x .free .is ∙ fix-scale (k - 1) true w _) }
-
-    reduced-level : levelOf s st (record { weight = 1; node = a .node }) ≡ levelOf s st a
-    unfolding levelOf
-    reduced-level = level-same indices _ _ a refl
-
-    pub lower-reduced-ready : OperationRequires c s st (record { weight = 1; node = a .node })
+    pub lows-reduced-ready : OperationRequires c s st (record { weight = 1; node = a .node })
         (record { weight = 1; node = a .node })
-    lower-reduced-ready =
+    lows-reduced-ready =
         let v : Valid (st .count) (record { weight = 1; node = a .node }) = record {
           small = omega arith;
           within = g .left .within;
@@ -90,172 +117,156 @@ module _ {c s : List ℕ} {st : State} {a : Edge} {k i : ℕ} (g : OperationRequ
         } in
         record { sound = g .sound; left = v; right = v; cache = g .cache }
 
-    pub lower-reduced : LowerReduced s st (record { weight = 1; node = a .node }) k
-    lower-reduced = record {
+    reduced-no-clash : clash (bits m) (tensorAt (setOf s st) (a .node)) ≡ false
+    unfolding tensorOf edgeIn
+    reduced-no-clash = clash-unscale (bits m) (toWeight (a .weight)) _ wn (x .no-clash)
+
+    pub lows-reduced : LowsReduced s st (record { weight = 1; node = a .node }) m
+    lows-reduced = record {
       one = refl;
-      requires = record { first = x .first; last = x .last; free = rw reduced-is reduced-free };
+      requires = record {
+        small = x .small;
+        zero = x .zero;
+        no-clash = rw (one-tensor s st (a .node)) reduced-no-clash;
+      };
       node = has-node;
-      most = omega (arith, level, reduced-level);
     }
 
-    pub lower-reduced-measure : edgesMeasure s st (record { weight = 1; node = a .node })
+    pub lows-reduced-measure : edgesMeasure s st (record { weight = 1; node = a .node })
         (record { weight = 1; node = a .node }) ≡ edgesMeasure s st a a
-    lower-reduced-measure = measure-same s st a a _ _ refl refl
+    lows-reduced-measure = measure-same s st a a _ _ refl refl
 
-    scaled : ScaledStep (toWeight (a .weight)) (low k (tensorAt (setOf s st) (a .node))) (low k (tensorOf s st a))
+    scaled : ScaledStep (toWeight (a .weight)) (lows (bits m) (tensorAt (setOf s st) (a .node)))
+        (lows (bits m) (tensorOf s st a))
     unfolding tensorOf edgeIn
-    scaled = low-scaled (toWeight (a .weight)) wn k _
+    scaled = lows-scaled (toWeight (a .weight)) wn (bits m) _
 
-    pub lower-times : (c' s' : List ℕ) (y q : Outcome)
-        → RefinesCached c' s s' st (low k (tensorOf s st (record { weight = 1; node = a .node }))) y
-        → MultipleOutcome (a .weight) y q → RefinesCached c' s s' st (low k (tensorOf s st a)) q
-    lower-times c' s' y q w t = cached-scaled c' s s' st y q (g .left .small) has-weight (rw reduced-is scaled) w t
+    pub lows-times : (c' s' : List ℕ) (y q : Outcome)
+        → RefinesCached c' s s' st (lows (bits m) (tensorOf s st (record { weight = 1; node = a .node }))) y
+        → MultipleOutcome (a .weight) y q → RefinesCached c' s s' st (lows (bits m) (tensorOf s st a)) q
+    lows-times c' s' y q w t =
+        cached-scaled c' s s' st y q (g .left .small) has-weight (rw (one-tensor s st (a .node)) scaled) w t
 
--- an edge of weight 1 that splits
-module _ {c s : List ℕ} {st : State} {a : Edge} {k : ℕ} (g : OperationRequires c s st a a)
-    (x : LowerReduced s st a k) where
-  pub lower-key-fits : {r : ℕ} → r ≡ k → KeyFits (record { op = ops.Lower; left = a .node; right = a .node; arg = r })
-  lower-key-fits e = record {
+-- where the top goes
+pub lower-in-member : (m k : ℕ) {x : Bool} → x ≡ bits m k → x ≡ true → k - 1 ≡ lowerIn (bits m) k
+lower-in-member m k h e = rw (sym h ∙ e)
+
+pub lower-in-other : (m k : ℕ) {x : Bool} → x ≡ bits m k → x ≡ false → k ≡ lowerIn (bits m) k
+lower-in-other m k h e = rw (sym h ∙ e)
+
+pub lower-in-some : (m k : ℕ) {x : Bool} → bits m 0 ≡ false → x ≡ bits m k → x ≡ true → 1 ≤ k
+lower-in-some m k z h e = let n : k ≢ 0 = λ q. true≢false (sym e ∙ h ∙ ap (bits m) q ∙ z) in omega (arith, n)
+
+lower-in-most : (m k : ℕ) → lowerIn (bits m) k ≤ k
+lower-in-most m k =
+    cases (bits m k) (λ e. rw e (omega arith)) (λ e. rw e (omega arith))
+
+-- an edge of weight 1 to a node
+module _ {c s : List ℕ} {st : State} {a : Edge} {m : ℕ} (g : OperationRequires c s st a a)
+    (x : LowsReduced s st a m) where
+  pub lows-key-fits : KeyFits (record { op = ops.Lows; left = a .node; right = a .node; arg = m })
+  lows-key-fits = record {
     left = omega (arith, g .left .within, g .sound .stored .numbered);
     right = omega (arith, g .left .within, g .sound .stored .numbered);
-    arg = omega (arith, x .requires .last);
+    arg = x .requires .small;
   }
 
-  pub lower-key-step : {r : ℕ} → r ≡ k
-      → low k (tensorOf s st a) ≡ keyStep s st (record { op = ops.Lower; left = a .node; right = a .node; arg = r })
+  pub lows-key-step : lows (bits m) (tensorOf s st a)
+      ≡ keyStep s st (record { op = ops.Lows; left = a .node; right = a .node; arg = m })
   unfolding keyStep opStep tensorOf edgeIn
-  lower-key-step e = rw (e, x .one, weight-one, scale-one)
+  lows-key-step = rw (x .one, weight-one, scale-one)
 
-  pub lower-known : (T : Tensor indices) × Writes T (low k (tensorOf s st a))
-  lower-known = (_, low-from (x .requires .first) (x .requires .last) _ (x .requires .free))
+  pub lows-known : (T : Tensor indices) × Writes T (lows (bits m) (tensorOf s st a))
+  lows-known = (_, lows-writes (bits m) (tensorOf s st a))
 
-  module _ {i : ℕ} (level : i ≡ levelOf s st a) where
-    pub lower-inside : i < indexCount
-    lower-inside = omega (arith, level, index-inside s st (g .sound) a (g .left) (x .node))
+  module _ {k : ℕ} (level : k ≡ levelOf s st a) where
+    pub lows-inside : k < indexCount
+    lows-inside = omega (arith, level, index-inside s st (g .sound) a (g .left) (x .node))
 
-    pub lower-lowest : i ≡ lowestOf s st a a
-    lower-lowest = omega (arith, level)
+    pub lows-lowest : k ≡ lowestOf s st a a
+    lows-lowest = omega (arith, level)
 
-    pub lower-fixable : CofactorRequires s st a i
-    lower-fixable = record { valid = g .left; inside = lower-inside; level = omega (arith, level) }
+    pub lows-fixable : CofactorRequires s st a k
+    lows-fixable = record { valid = g .left; inside = lows-inside; level = omega (arith, level) }
 
-    top-i : top (tensorOf s st a) ≡ some i
-    top-i = top-node (g .sound) (g .left) (x .node) ∙ ap some (sym level)
+    top-k : top (tensorOf s st a) ≡ some k
+    top-k = top-node (g .sound) (g .left) (x .node) ∙ ap some (sym level)
 
-    -- "If the top is k, join(k-1, A0, A1)."
-    module _ {a0 a1 : Edge} (e : i ≡ k) (c0 : IsCofactor s st a i false a0) (c1 : IsCofactor s st a i true a1) where
-      pub here-joinable : JoinRequires s st (k - 1) a0 a1
-      here-joinable = record {
-        inside = omega (arith, x .requires .last);
-        low = c0 .valid;
-        high = c1 .valid;
-        from-low = free-below-level s st (g .sound) a0 (suc (k - 1)) (c0 .valid)
-            (omega (arith, c0 .above, x .requires .first));
-        from-high = free-below-level s st (g .sound) a1 (suc (k - 1)) (c1 .valid)
-            (omega (arith, c1 .above, x .requires .first));
-      }
+    -- low part, high part, joined where k goes
+    pub lows-whole : lows (bits m) (tensorOf s st a)
+        ≡ both (lowsFirst (bits m)) k (tensorOf s st a) (tensorOf s st a) (join (lowerIn (bits m) k))
+    lows-whole = lows-both (bits m) k _ (x .requires .zero) (x .requires .no-clash) top-k
 
-      here-is : low k (tensorOf s st a) (setOf s st) ≡ join (k - 1) (tensorOf s st a0) (tensorOf s st a1) (setOf s st)
-      here-is = low-here k _ _ (top-i ∙ ap some e) ∙ rw (c0 .is, c1 .is, e) refl
-
-      pub here-refines : (s' : List ℕ) (r : Outcome)
-          → Refines s s' st (join (k - 1) (tensorOf s st a0) (tensorOf s st a1)) r
-          → RefinesCached c s s' st (low k (tensorOf s st a)) r
-      here-refines s' r d = cached-as _ _ s' st _ _ r here-is (cached-step s' _ r g d)
-
-    -- "Else join(top, low(A0,k), low(A1,k))."
-    module _ (e : i ≢ k) where
-      pub lower-between : LowerHighRequires s st a k i
-      lower-between =
-          let other : i ≢ k - 1 = λ q. top-depends (k - 1) _ (top-i ∙ ap some q) (x .requires .free .is) in
-          record { requires = x .requires; below = omega (arith, x .most, level, other, x .requires .first) }
-
-      pub lower-whole : low k (tensorOf s st a) ≡ both (lowFirst k) i (tensorOf s st a) (tensorOf s st a) (join i)
-      lower-whole = low-both k _ (setOf s st) i top-i (omega (arith, lower-between .below))
-
--- the parts
-module _ {c s : List ℕ} {st : State} {a : Edge} {k i : ℕ} (g : OperationRequires c s st a a)
-    (level : i ≡ lowestOf s st a a)
-    (x : LowerHighRequires s st a k i) where
-  part-free : (b : Bool) → Free (k - 1) (fix i b (tensorOf s st a))
-  part-free b = free-fix (k - 1) i b _ (λ q. omega (arith, x .below)) (x .requires .free)
-
-  pub lower-part : {b : Bool} {a' : Edge} → IsCofactor s st a i b a' → LowerRequires s st a' k
-  lower-part {b} p = record { first = x .requires .first; last = x .requires .last; free = rw (p .is) (part-free b) }
-
-  writes : (b : Bool) → Writes (renameDown k (fix i b (tensorOf s st a))) (low k (fix i b (tensorOf s st a)))
-  writes b = low-from (x .requires .first) (x .requires .last) _ (part-free b)
-
-  pub lower-parts-at : PartsGrow (tensorOf s st a) (tensorOf s st a) i (lowFirst k) (join i)
-  lower-parts-at = record {
-    rec-grows = λ b z. writes-grows (writes b) z;
-    final-grows = λ X Y z. join-grows i X Y z;
-    rec-from = λ b z. rw (writes-answer (writes b) z)
-        (rename-down-part i k b _ (omega (arith, x .below)) (free-below-level s st (g .sound) a i (g .left)
-        (omega (arith, level))));
-  }
+    pub lows-parts-at : PartsGrow (tensorOf s st a) (tensorOf s st a) k (lowerIn (bits m) k) (lowsFirst (bits m))
+        (join (lowerIn (bits m) k))
+    lows-parts-at = record {
+      not-above = lower-in-most m k;
+      rec-grows = λ b z. writes-grows (lows-writes (bits m) _) z;
+      final-grows = λ X Y z. join-grows _ X Y z;
+      rec-from = λ b z. rw (writes-answer (lows-writes (bits m) (fix k b (tensorOf s st a))) z)
+          (lowered-part (bits m) k _ (x .requires .zero) (x .requires .no-clash) top-k b);
+    }
 
 -- the low part
-module _ {c s : List ℕ} {st : State} {a a0 : Edge} {k i : ℕ} (g : OperationRequires c s st a a)
-    (x : LowerReduced s st a k) (level : i ≡ levelOf s st a) (e : i ≢ k)
-    (c0 : IsCofactor s st a i false a0) (c₁ s₁ : List ℕ) (r : Outcome)
-    (w : RefinesCached c₁ s s₁ st (low k (tensorOf s st a0)) r) where
-  v : PartsGrow (tensorOf s st a) (tensorOf s st a) i (lowFirst k) (join i)
-  v = lower-parts-at g (lower-lowest g x level) (lower-between g x level e)
-
-  pub lower-low-full : r ≡ outcome.Full → RefinesCached c₁ s s₁ st (low k (tensorOf s st a)) outcome.Full
-  lower-low-full q =
-      low-part-full g (lower-inside g x level) (lower-lowest g x level) v (lower-whole g x level e) c0 c0 c₁ s₁ r w q
+module _ {c s : List ℕ} {st : State} {a a0 : Edge} {m k : ℕ} (g : OperationRequires c s st a a)
+    (x : LowsReduced s st a m) (level : k ≡ levelOf s st a)
+    (c0 : IsCofactor s st a k false a0) (c₁ s₁ : List ℕ) (r : Outcome)
+    (w : RefinesCached c₁ s s₁ st (lows (bits m) (tensorOf s st a0)) r) where
+  pub lows-low-full : r ≡ outcome.Full → RefinesCached c₁ s s₁ st (lows (bits m) (tensorOf s st a)) outcome.Full
+  lows-low-full q = low-part-full g (lows-inside g x level) (lows-lowest g x level) (lows-parts-at g x level)
+      (lows-whole g x level) c0 c0 c₁ s₁ r w q
 
   module _ {l : Edge} {t : State} (q : r ≡ outcome.Edge l t) where
-    pub lower-high-ready : HighRequires c₁ s₁ t a a i l
-    lower-high-ready = high-part-ready g (lower-inside g x level) (lower-lowest g x level) v (lower-whole g x level e)
-        c0 c0 c₁ s₁ r w q
+    pub lows-high-ready : HighRequires c₁ s₁ t a a k (lowerIn (bits m) k) l
+    lows-high-ready = high-part-ready g (lows-inside g x level) (lows-lowest g x level) (lows-parts-at g x level)
+        (lows-whole g x level) c0 c0 c₁ s₁ r w q
 
-    pub lower-measure : edgesMeasure s₁ t a a ≡ edgesMeasure s st a a
-    lower-measure = high-part-measure g (lower-inside g x level) (lower-lowest g x level) v (lower-whole g x level e) c0
-        c0 c₁ s₁ r w q
+    pub lows-measure : edgesMeasure s₁ t a a ≡ edgesMeasure s st a a
+    lows-measure = high-part-measure g (lows-inside g x level) (lows-lowest g x level) (lows-parts-at g x level)
+        (lows-whole g x level) c0 c0 c₁ s₁ r w q
 
     -- a keeps its tensor
-    pub lower-still : LowerHighRequires s₁ t a k i
-    lower-still =
-        let b = lower-between g x level e in
-        record {
-          requires = record {
-            first = x .requires .first;
-            last = x .requires .last;
-            free = rw (tensor-kept s s₁ st t (cached-at _ r w q .step .grown) (g .left)) (x .requires .free);
-          };
-          below = b .below;
-        }
+    pub lows-still : LowsReduced s₁ t a m
+    lows-still = record {
+      one = x .one;
+      requires = record {
+        small = x .requires .small;
+        zero = x .requires .zero;
+        no-clash = rw (tensor-kept s s₁ st t (cached-at _ r w q .step .grown) (g .left)) (x .requires .no-clash);
+      };
+      node = x .node;
+    }
 
-    pub lower-low-refines : (c₂ s₂ : List ℕ) (m : Outcome)
-        → RefinesCached c₂ s₁ s₂ t (highStep (lowFirst k) (join i) i (tensorOf s₁ t a) (tensorOf s₁ t a)
-        (tensorOf s₁ t l)) m
-        → RefinesCached c₂ s s₂ st (low k (tensorOf s st a)) m
-    lower-low-refines c₂ s₂ m h = low-part-refines g (lower-inside g x level) (lower-lowest g x level) v
-        (lower-whole g x level e) c0 c0 c₁ s₁ r w q c₂ s₂ m h
+    pub lows-low-refines : (c₂ s₂ : List ℕ) (y : Outcome)
+        → RefinesCached c₂ s₁ s₂ t (highStep (lowsFirst (bits m)) (join (lowerIn (bits m) k)) k (tensorOf s₁ t a)
+        (tensorOf s₁ t a) (tensorOf s₁ t l)) y
+        → RefinesCached c₂ s s₂ st (lows (bits m) (tensorOf s st a)) y
+    lows-low-refines c₂ s₂ y h = low-part-refines g (lows-inside g x level) (lows-lowest g x level)
+        (lows-parts-at g x level) (lows-whole g x level) c0 c0 c₁ s₁ r w q c₂ s₂ y h
 
 -- the high part
-module _ {c s : List ℕ} {st : State} {a a1 l : Edge} {k i : ℕ} (w : HighRequires c s st a a i l)
-    (x : LowerHighRequires s st a k i)
-    (c1 : IsCofactor s st a i true a1) (c₁ s₁ : List ℕ) (r : Outcome)
-    (h : RefinesCached c₁ s s₁ st (low k (tensorOf s st a1)) r) where
-  u : PartsGrow (tensorOf s st a) (tensorOf s st a) i (lowFirst k) (join i)
-  u = lower-parts-at (w .ready) (w .lowest) x
+module _ {c s : List ℕ} {st : State} {a a1 l : Edge} {m k : ℕ} (w : HighRequires c s st a a k (lowerIn (bits m) k) l)
+    (x : LowsReduced s st a m) (c1 : IsCofactor s st a k true a1) (c₁ s₁ : List ℕ) (r : Outcome)
+    (h : RefinesCached c₁ s s₁ st (lows (bits m) (tensorOf s st a1)) r) where
+  level : k ≡ levelOf s st a
+  level = omega (arith, w .lowest)
 
-  pub lower-high-full : r ≡ outcome.Full
-      → RefinesCached c₁ s s₁ st (highStep (lowFirst k) (join i) i (tensorOf s st a) (tensorOf s st a)
-      (tensorOf s st l)) outcome.Full
-  lower-high-full e = high-part-full w u c1 c1 c₁ s₁ r h e
+  u : PartsGrow (tensorOf s st a) (tensorOf s st a) k (lowerIn (bits m) k) (lowsFirst (bits m))
+      (join (lowerIn (bits m) k))
+  u = lows-parts-at (w .ready) x level
 
-  module _ {y : Edge} {t : State} (e : r ≡ outcome.Edge y t) where
-    pub lower-joinable : Sound s₁ t × JoinRequires s₁ t i l y
-    lower-joinable = (high-ready w u c1 c1 c₁ s₁ r h e .sound, high-joinable w u c1 c1 c₁ s₁ r h e)
+  pub lows-high-full : r ≡ outcome.Full
+      → RefinesCached c₁ s s₁ st (highStep (lowsFirst (bits m)) (join (lowerIn (bits m) k)) k (tensorOf s st a)
+      (tensorOf s st a) (tensorOf s st l)) outcome.Full
+  lows-high-full e = high-part-full w u c1 c1 c₁ s₁ r h e
 
-    pub lower-high-refines : (s₂ : List ℕ) (q : Outcome)
-        → Refines s₁ s₂ t (join i (tensorOf s₁ t l) (tensorOf s₁ t y)) q
-        → RefinesCached c₁ s s₂ st (highStep (lowFirst k) (join i) i (tensorOf s st a) (tensorOf s st a)
-        (tensorOf s st l)) q
-    lower-high-refines s₂ q d =
-        high-part-refines w u c1 c1 c₁ s₁ r h e c₁ s₂ q (cached-step s₂ _ q (high-ready w u c1 c1 c₁ s₁ r h e) d)
+  module _ {y : Edge} {t : State} (e : r ≡ outcome.Edge y t) {j : ℕ} (to : j ≡ lowerIn (bits m) k) where
+    pub lows-joinable : Sound s₁ t × JoinRequires s₁ t j l y
+    lows-joinable = rw to (high-ready w u c1 c1 c₁ s₁ r h e .sound, high-joinable w u c1 c1 c₁ s₁ r h e)
+
+    pub lows-high-refines : (s₂ : List ℕ) (q : Outcome)
+        → Refines s₁ s₂ t (join j (tensorOf s₁ t l) (tensorOf s₁ t y)) q
+        → RefinesCached c₁ s s₂ st (highStep (lowsFirst (bits m)) (join (lowerIn (bits m) k)) k (tensorOf s st a)
+        (tensorOf s st a) (tensorOf s st l)) q
+    lows-high-refines s₂ q d = high-part-refines w u c1 c1 c₁ s₁ r h e c₁ s₂ q
+        (cached-step s₂ _ q (high-ready w u c1 c1 c₁ s₁ r h e) (rw to at d))

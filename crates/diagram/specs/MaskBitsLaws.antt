@@ -1,10 +1,10 @@
--- Laws of a number's bits: it is known by them; those of `|`; the set of one index.
+-- Laws of a number's bits: it is known by them; those of `|` and `&`; the set of one index.
 use mathlib.Core.Path.{_≡_, refl, ap, sym, _∙_}
-use mathlib.Core.Bool.{true, false, _||_}
-use Prim.Native.Nat.{ℕ, zero, suc, _+_, _/_, _%_, _^_, _<_, _≤_, max}
+use mathlib.Core.Bool.{true, false, _&&_, _||_}
+use Prim.Native.Nat.{ℕ, zero, suc, _+_, _/_, _%_, _^_, _<_, _≤_, max, min}
 use native.Mathlib.Omega.{arith}
 use native.Mathlib.Nat.{pow-le-pow-right}
-use lib.Bits.{bitOr, or-step}
+use lib.Bits.{bitOr, bitAnd, or-step, and-step}
 use lib.Dec.{eqb}
 use borrow.Author.Tests.{eq-eqb, eqb-true, eqb-false}
 use Rattle.diagram.specs.Tensor.{bits}
@@ -59,6 +59,26 @@ bits-or a b zero =
 bits-or a b (suc k) =
     let e : bitOr a b / 2 ≡ bitOr (a / 2) (b / 2) = omega (arith, or-step a b) in
     ap (λ x. bits x k) e ∙ bits-or (a / 2) (b / 2) k
+
+-- the bits of `&`
+
+digit-and : (a b : ℕ) → a < 2 → b < 2 → eqb (min a b) 1 ≡ (eqb a 1 && eqb b 1)
+digit-and zero zero p q = refl
+digit-and zero (suc zero) p q = refl
+digit-and zero (suc (suc b)) p q = absurd (omega arith)
+digit-and (suc zero) zero p q = refl
+digit-and (suc zero) (suc zero) p q = refl
+digit-and (suc zero) (suc (suc b)) p q = absurd (omega arith)
+digit-and (suc (suc a)) b p q = absurd (omega arith)
+
+pub bits-and : (a b k : ℕ) → bits (bitAnd a b) k ≡ (bits a k && bits b k)
+unfolding bits
+bits-and a b zero =
+    let e : bitAnd a b % 2 ≡ min (a % 2) (b % 2) = omega (arith, and-step a b) in
+    ap (λ x. eqb x 1) e ∙ digit-and (a % 2) (b % 2) (omega arith) (omega arith)
+bits-and a b (suc k) =
+    let e : bitAnd a b / 2 ≡ bitAnd (a / 2) (b / 2) = omega (arith, and-step a b) in
+    ap (λ x. bits x k) e ∙ bits-and (a / 2) (b / 2) k
 
 -- k alone
 pub power-bits : (k j : ℕ) → bits (2 ^ k) j ≡ eqb j k

@@ -60,11 +60,11 @@ nodes-differ n e = n (ap (λ (x : Edge). x .node) e)
 pub indices-differ : {x y : Node} → x .index ≢ y .index → x ≢ y
 indices-differ n e = n (ap (λ (z : Node). z .index) e)
 
-pub lows-differ : {x y : Node} (b : Bool) → Decides (x .low ≡ y .low) b → b ≡ false → x ≢ y
-lows-differ b t f e = decides-false b t f (ap (λ (z : Node). z .low) e)
+pub low-edges-differ : {x y : Node} (b : Bool) → Decides (x .low ≡ y .low) b → b ≡ false → x ≢ y
+low-edges-differ b t f e = decides-false b t f (ap (λ (z : Node). z .low) e)
 
-pub highs-differ : {x y : Node} (b : Bool) → Decides (x .high ≡ y .high) b → b ≡ false → x ≢ y
-highs-differ b t f e = decides-false b t f (ap (λ (z : Node). z .high) e)
+pub high-edges-differ : {x y : Node} (b : Bool) → Decides (x .high ≡ y .high) b → b ≡ false → x ≢ y
+high-edges-differ b t f e = decides-false b t f (ap (λ (z : Node). z .high) e)
 
 pub masks-decide : (x y : Node) (a b : Bool) → x .index ≡ y .index → Decides (x .low ≡ y .low) a → a ≡ true
     → Decides (x .high ≡ y .high) b → b ≡ true → Decides (x ≡ y) (eqb (x .mask) (y .mask))

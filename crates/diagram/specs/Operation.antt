@@ -2,7 +2,7 @@
 use mathlib.Core.Path.{_≡_}
 use mathlib.Core.List.{List}
 use mathlib.Core.Bool.{Bool, true}
-use Prim.Native.Nat.{ℕ, min, suc, _-_, _<_}
+use Prim.Native.Nat.{ℕ, min, suc, _-_, _≤_, _<_}
 use Rattle.diagram.specs.Tensor.{indices, Tensor, fix, indexCount}
 use Rattle.diagram.specs.Tally.{Step, Set, Binary, _>>=_}
 use Rattle.diagram.specs.Meaning.{Valid}
@@ -58,21 +58,23 @@ unfoldable pub highStep : Binary indices → Binary indices → ℕ → Tensor i
     → Step indices
 highStep rec final k A B L = rec (fix k true A) (fix k true B) >>= final L
 
--- what is known between the parts: k is the lower top of a and b, and l, the answer of the low part, does not depend on
--- the indices up to k
-pub record HighRequires (c s : List ℕ) (st : State) (a b : Edge) (k : ℕ) (l : Edge) : Type 0 where
+-- What is known between the parts: k is the lower top of a and b, and l, the answer of the low part, does not depend on
+-- the indices up to j, where the answers are joined. That is k, or the index before it where k goes down.
+pub record HighRequires (c s : List ℕ) (st : State) (a b : Edge) (k j : ℕ) (l : Edge) : Type 0 where
   pub ready : OperationRequires c s st a b
   pub inside : k < indexCount
   pub lowest : k ≡ lowestOf s st a b
   pub low : Valid (st .count) l
-  pub from-low : FreeBelow (suc k) (tensorOf s st l)
+  pub not-above : j ≤ k
+  pub from-low : FreeBelow (suc j) (tensorOf s st l)
 
 -- how far the recursion is from its end: "24 minus the top index falls"
 unfoldable pub edgesMeasure : List ℕ → State → Edge → Edge → ℕ
 edgesMeasure s st a b = indexCount - lowestOf s st a b
 
--- What the parts put in, and that their answers do not depend on the indices up to k.
-pub record PartsGrow (A B : Tensor indices) (k : ℕ) (rec final : Binary indices) : Type 0 where
+-- What the parts put in, and that their answers do not depend on the indices up to j, where they are joined.
+pub record PartsGrow (A B : Tensor indices) (k j : ℕ) (rec final : Binary indices) : Type 0 where
+  pub not-above : j ≤ k
   pub rec-grows : (x : Bool) (z : Set indices) → PrefixOf z (rec (fix k x A) (fix k x B) z .1)
   pub final-grows : (X Y : Tensor indices) (z : Set indices) → PrefixOf z (final X Y z .1)
-  pub rec-from : (x : Bool) (z : Set indices) → FreeBelow (suc k) (rec (fix k x A) (fix k x B) z .0)
+  pub rec-from : (x : Bool) (z : Set indices) → FreeBelow (suc j) (rec (fix k x A) (fix k x B) z .0)

@@ -10,16 +10,18 @@ use native.Mathlib.Decide.{ℕ-discrete}
 use lib.Dec.{leb}
 use borrow.Author.Tests.{leb-true, leb-false}
 use Rattle.field.specs.Weight.{1W}
+use Rattle.field.specs.RingLaws.{weight-one}
 use Rattle.diagram.specs.Tensor.{Tensor, top, top2, lowerTop, fix, indices, indexCount}
-use Rattle.diagram.specs.TensorLaws.{scale-constant}
+use Rattle.diagram.specs.TensorLaws.{scale-constant, scale-one}
 use Rattle.diagram.specs.TopLaws.{top-constant}
 use Rattle.diagram.specs.Top.{FreeBelow}
 use Rattle.diagram.specs.Tally.{Set, Step, Binary, _>>=_, both}
+use Rattle.diagram.specs.Reach.{Covers}
 use Rattle.diagram.specs.Sets.{PrefixOf}
 use Rattle.diagram.specs.SetsLaws.{prefix-trans}
-use Rattle.diagram.specs.Meaning.{Valid}
+use Rattle.diagram.specs.Meaning.{tensorAt, edgeIn, Valid}
 use Rattle.diagram.specs.MeaningLaws.{valid-more, level-same, level-kept}
-use Rattle.diagram.specs.CanonicalLaws.{edge-constant, edge-top}
+use Rattle.diagram.specs.CanonicalLaws.{edge-constant, edge-top, sound-covers}
 use Rattle.diagram.specs.Store.{nodesOf, setOf, tensorOf, levelOf, Sound}
 use Rattle.diagram.specs.StoreLaws.{nodes-length, tensor-kept, refines-count}
 use Rattle.diagram.specs.EdgeLaws.{level-none, index-inside, level-most}
@@ -47,10 +49,21 @@ module _ {s : List ℕ} {st : State} (held : Sound s st) where
   unfolding tensorOf setOf levelOf
   top-node {e} v n = edge-top indices (nodesOf s st) (held .nodes) e (rw (nodes-length s st) v) (omega arith)
 
-  pub top-leaf : (e : Edge) → e .node ≡ 0 → top (tensorOf s st e) ≡ none
+  top-leaf : (e : Edge) → e .node ≡ 0 → top (tensorOf s st e) ≡ none
   unfolding tensorOf setOf
   top-leaf e z =
       rw (edge-constant indices (nodesOf s st) (held .nodes) e z, scale-constant indices _ 1W) (top-constant indices _)
+
+  -- what an edge reaches is among the nodes
+  pub edge-covers : {e : Edge} → Valid (st .count) e → Covers (setOf s st) (tensorOf s st e)
+  unfolding tensorOf setOf
+  edge-covers {e} v = sound-covers indices (nodesOf s st) (held .nodes) e (rw (nodes-length s st) v)
+
+-- an edge of weight 1 has its node's tensor
+pub one-tensor : (s : List ℕ) (st : State) (n : ℕ)
+    → tensorOf s st (record { weight = 1; node = n }) ≡ tensorAt (setOf s st) n
+unfolding tensorOf edgeIn
+one-tensor s st n = rw weight-one (scale-one _)
 
 both-levels : (i j : ℕ) → lowerTop (some i) (some j) ≡ some (min i j)
 both-levels i j = go (leb i j) refl
@@ -121,7 +134,7 @@ module _ {c s : List ℕ} {st : State} {a b : Edge} {k : ℕ} (g : OperationRequ
       level-most s st (g .sound) b' (cb .valid),
     )
 
-high-grows : {A B : Tensor indices} {k : ℕ} {rec final : Binary indices} → PartsGrow A B k rec final
+high-grows : {A B : Tensor indices} {k j : ℕ} {rec final : Binary indices} → PartsGrow A B k j rec final
     → (L : Tensor indices) (z : Set indices)
     → PrefixOf z (highStep rec final k A B L z .1)
 unfolding highStep _>>=_
@@ -136,9 +149,9 @@ unfolding both highStep _>>=_
 low-high A B k F rec final e z = ap (λ f. f z) e
 
 -- the low part
-module _ {c s : List ℕ} {st : State} {a b a' b' : Edge} {k : ℕ} {F : Step indices} {rec final : Binary indices}
+module _ {c s : List ℕ} {st : State} {a b a' b' : Edge} {k j : ℕ} {F : Step indices} {rec final : Binary indices}
     (g : OperationRequires c s st a b) (i : k < indexCount) (m : k ≡ lowestOf s st a b)
-    (v : PartsGrow (tensorOf s st a) (tensorOf s st b) k rec final)
+    (v : PartsGrow (tensorOf s st a) (tensorOf s st b) k j rec final)
     (whole : F ≡ both rec k (tensorOf s st a) (tensorOf s st b) final) (ca : IsCofactor s st a k false a')
     (cb : IsCofactor s st b k false b') (c₁ s₁ : List ℕ) (r : Outcome)
     (w : RefinesCached c₁ s s₁ st (rec (tensorOf s st a') (tensorOf s st b')) r) where
@@ -163,7 +176,7 @@ module _ {c s : List ℕ} {st : State} {a b a' b' : Edge} {k : ℕ} {F : Step in
     unfolding levelOf
     kept x u = level-kept indices (low-cached .step .grown) (rw (nodes-length s st) u)
 
-    pub high-part-ready : HighRequires c₁ s₁ t a b k l
+    pub high-part-ready : HighRequires c₁ s₁ t a b k j l
     high-part-ready = record {
       ready = record {
         sound = low-cached .step .sound;
@@ -174,7 +187,8 @@ module _ {c s : List ℕ} {st : State} {a b a' b' : Edge} {k : ℕ} {F : Step in
       inside = i;
       lowest = omega (arith, m, kept a (g .left), kept b (g .right));
       low = low-cached .step .valid;
-      from-low = subst (FreeBelow (suc k)) (ap (λ q. q .0) low-done) (v .rec-from false (setOf s st));
+      not-above = v .not-above;
+      from-low = subst (FreeBelow (suc j)) (ap (λ q. q .0) low-done) (v .rec-from false (setOf s st));
     }
 
     pub high-part-measure : edgesMeasure s₁ t a b ≡ edgesMeasure s st a b
@@ -193,8 +207,8 @@ module _ {c s : List ℕ} {st : State} {a b a' b' : Edge} {k : ℕ} {F : Step in
         )) h
 
 -- the high part
-module _ {c s : List ℕ} {st : State} {a b a' b' l : Edge} {k : ℕ} {rec final : Binary indices}
-    (w : HighRequires c s st a b k l) (v : PartsGrow (tensorOf s st a) (tensorOf s st b) k rec final)
+module _ {c s : List ℕ} {st : State} {a b a' b' l : Edge} {k j : ℕ} {rec final : Binary indices}
+    (w : HighRequires c s st a b k j l) (v : PartsGrow (tensorOf s st a) (tensorOf s st b) k j rec final)
     (ca : IsCofactor s st a k true a') (cb : IsCofactor s st b k true b') (c₁ s₁ : List ℕ) (r : Outcome)
     (h : RefinesCached c₁ s s₁ st (rec (tensorOf s st a') (tensorOf s st b')) r) where
   high-is : rec (tensorOf s st a') (tensorOf s st b') ≡ rec (fix k true (tensorOf s st a))
@@ -226,13 +240,13 @@ module _ {c s : List ℕ} {st : State} {a b a' b' l : Edge} {k : ℕ} {rec final
       cache = high-cached .cache;
     }
 
-    pub high-joinable : JoinRequires s₁ t k l x
+    pub high-joinable : JoinRequires s₁ t j l x
     high-joinable = record {
-      inside = w .inside;
+      inside = omega (arith, w .inside, w .not-above);
       low = valid-more _ (refines-count (high-cached .step)) (w .low);
       high = high-cached .step .valid;
       from-low = rw low-kept (w .from-low);
-      from-high = subst (FreeBelow (suc k)) (ap (λ q. q .0) high-done) (v .rec-from true (setOf s st));
+      from-high = subst (FreeBelow (suc j)) (ap (λ q. q .0) high-done) (v .rec-from true (setOf s st));
     }
 
     pub high-part-refines : (c₂ s₂ : List ℕ) (q : Outcome)

@@ -1,6 +1,8 @@
--- What gates, `unit`, sum, contraction and lowering answer, in document 01's words: at each assignment v, as a number.
+-- What gates, `unit`, sum, contraction and lowering answer, in the documents' words: at each
+-- assignment v, as a number.
 use mathlib.Core.Path.{_≡_, refl, ap, sym, _∙_}
 use mathlib.Core.Logic.{_↔_}
+use mathlib.Core.Bool.{cond}
 use mathlib.Core.List.{List}
 use Prim.Native.Nat.{ℕ, _-_, _^_, _<_}
 use native.Mathlib.Omega.{arith}
@@ -10,6 +12,8 @@ use Rattle.diagram.specs.Tensor.{bits, at, value, assign, indices, indic
 use Rattle.diagram.specs.Tally.{Step, sum, cont, low, build}
 use Rattle.diagram.specs.SumOver.{settings}
 use Rattle.diagram.specs.TallyValueLaws.{sum-value, cont-value, low-value, build-value}
+use Rattle.diagram.specs.Lows.{lows}
+use Rattle.diagram.specs.TallyLowsLaws.{lows-value}
 use Rattle.diagram.specs.Gate.{entry, gateTensor, unitEntry, unitTensor}
 use Rattle.diagram.specs.GateLaws.{gate-value, unit-value}
 use Rattle.diagram.specs.Node.{capacity}
@@ -71,6 +75,14 @@ pub lower-answer : {c' s s' : List ℕ} {st t : State} {e : Edge} (a : Edge) (k 
 lower-answer {s = s} {st = st} a k x w v =
     rw (answer-tensor (w .step))
     (low-value (setOf s st) k (tensorOf s st a) v (x .first) (rw indices-count (omega (arith, x .last))) (x .free))
+
+-- "lowers every index of the set m at the same moment": at v the answer has a's value where each index k of m takes the
+-- value of k - 1
+pub lows-answer : {c' s s' : List ℕ} {st t : State} {e : Edge} (a : Edge) (m : ℕ)
+    → RefinesCached c' s s' st (lows (bits m) (tensorOf s st a)) (outcome.Edge e t) → (v : ℕ)
+    → value (tensorOf s' t e) v ≡ at (tensorOf s st a) (λ k. cond (bits m k) (bits v (k - 1)) (bits v k))
+lows-answer {s = s} {st = st} a m w v =
+    rw (answer-tensor (w .step)) (lows-value (bits m) (tensorOf s st a) (setOf s st) v)
 
 -- "A call whose set would exceed the capacity is refused as 8 (full)", and no other: for gates and `unit` ..
 pub refines-full-exactly : (s s' : List ℕ) (st : State) (f : Step indices) (r : Outcome) → Refines s s' st f r

@@ -5,6 +5,7 @@ use mathlib.Core.Bool.{true, false}
 use mathlib.Core.List.{List}
 use Prim.Native.Nat.{ℕ, suc}
 use native.Mathlib.Omega.{arith}
+use native.Mathlib.Nat.{le-refl}
 use lib.ListN.{length}
 use Rattle.field.specs.Weight.{toWeight, timesW, inverseW, Nonzero}
 use Rattle.field.specs.Field.{Represents}
@@ -163,8 +164,9 @@ module _ {c s : List ℕ} {st : State} {a b : Edge} (g : OperationRequires c s s
 
 pub sum-parts-at : {c s : List ℕ} {st : State} {a b : Edge} {k : ℕ} → OperationRequires c s st a b
     → k ≡ lowestOf s st a b
-    → PartsGrow (tensorOf s st a) (tensorOf s st b) k sum (join k)
+    → PartsGrow (tensorOf s st a) (tensorOf s st b) k k sum (join k)
 sum-parts-at {s = s} {st} {a} {b} {k} g m = record {
+  not-above = le-refl k;
   rec-grows = λ x z. sum-grows _ _ z;
   final-grows = λ X Y z. join-grows k X Y z;
   rec-from = λ x z. rw (sum-meaning (fix k x (tensorOf s st a)) (fix k x (tensorOf s st b)) z)
@@ -182,7 +184,7 @@ module _ {c s : List ℕ} {st : State} {a b a0 b0 : Edge} {k : ℕ} (g : Operati
   sum-low-full e = low-part-full g (inside g (sum-some g p) m) m (sum-parts-at g m) (sum-whole g p m) ca cb c₁ s₁ r w e
 
   module _ {l : Edge} {t : State} (e : r ≡ outcome.Edge l t) where
-    pub sum-high-ready : HighRequires c₁ s₁ t a b k l
+    pub sum-high-ready : HighRequires c₁ s₁ t a b k k l
     sum-high-ready =
         high-part-ready g (inside g (sum-some g p) m) m (sum-parts-at g m) (sum-whole g p m) ca cb c₁ s₁ r w e
 
@@ -197,10 +199,10 @@ module _ {c s : List ℕ} {st : State} {a b a0 b0 : Edge} {k : ℕ} (g : Operati
         cb c₁ s₁ r w e c₂ s₂ q h
 
 -- the high parts
-module _ {c s : List ℕ} {st : State} {a b a1 b1 l : Edge} {k : ℕ} (w : HighRequires c s st a b k l)
+module _ {c s : List ℕ} {st : State} {a b a1 b1 l : Edge} {k : ℕ} (w : HighRequires c s st a b k k l)
     (ca : IsCofactor s st a k true a1) (cb : IsCofactor s st b k true b1) (c₁ s₁ : List ℕ) (r : Outcome)
     (h : RefinesCached c₁ s s₁ st (sum (tensorOf s st a1) (tensorOf s st b1)) r) where
-  v : PartsGrow (tensorOf s st a) (tensorOf s st b) k sum (join k)
+  v : PartsGrow (tensorOf s st a) (tensorOf s st b) k k sum (join k)
   v = sum-parts-at (w .ready) (w .lowest)
 
   pub sum-high-full : r ≡ outcome.Full

@@ -46,7 +46,7 @@ support-record s st h n p q =
     ∙ ap supportMask (sym (h .nodes .meaning n p l))
 
 -- masks of the store's edges are below 2 to the power 24
-masks-power : 2 ^ indices ≡ masks
+pub masks-power : 2 ^ indices ≡ masks
 masks-power = rw indices-count refl
 
 support-small : (T : Tensor indices) → supportMask T < masks

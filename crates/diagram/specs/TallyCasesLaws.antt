@@ -19,7 +19,7 @@ use Rattle.diagram.specs.TallyContLaws.{cont-step}
 use Rattle.diagram.specs.TallyLowLaws.{low-step}
 use Rattle.diagram.specs.TallyBuildLaws.{build-step}
 
-both-done : {d : ℕ} (rec : Binary d) (k : ℕ) (A B : Tensor d) (final : Binary d) {s s1 s2 : Set d} {L H : Tensor d}
+pub both-done : {d : ℕ} (rec : Binary d) (k : ℕ) (A B : Tensor d) (final : Binary d) {s s1 s2 : Set d} {L H : Tensor d}
     → rec (fix k false A) (fix k false B) s ≡ (L, s1) → rec (fix k true A) (fix k true B) s1 ≡ (H, s2)
     → both rec k A B final s ≡ final L H s2
 unfolding both _>>=_
@@ -122,7 +122,7 @@ module _ {d : ℕ} (k : ℕ) (A : Tensor d) (s : Set d) where
   unfolding lowBody lowCases lowAt
   low-here e = rw (low-step k A, e, le-ltb k k (omega arith), eq-eqb k k refl)
 
-  pub low-both : (t : ℕ) → top A ≡ some t → t < k → low k A ≡ both (λ X Y. low k X) t A A (join t)
+  low-both : (t : ℕ) → top A ≡ some t → t < k → low k A ≡ both (λ X Y. low k X) t A A (join t)
   unfolding lowBody lowCases lowAt halves both
   low-both t e p = rw (low-step k A, e, le-ltb k t (omega arith), ne-eqb t k (λ q. omega arith))
 

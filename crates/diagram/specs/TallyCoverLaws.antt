@@ -11,7 +11,7 @@ use Rattle.field.specs.Weight.{Weight, 0W, 1W, plusW, sameW, Nonzero}
 use Rattle.field.specs.RingLaws.{sameW-eq}
 use Rattle.diagram.specs.Tensor.{Tensor, Bits, same, constant, isZero, scale, plus, top, top2, fix, joined}
 use Rattle.diagram.specs.Tensor.{normal, multiple, without}
-use Rattle.diagram.specs.TensorLaws.{scale-one, zero-scale, scale-constant}
+use Rattle.diagram.specs.TensorLaws.{scale-one, zero-scale, scale-constant, same-eq, joined-fix}
 use Rattle.diagram.specs.TensorRingLaws.{plus-constant}
 use Rattle.diagram.specs.TopLaws.{free-below-less, free-below-fix, free-below-plus, free-below-times}
 use Rattle.diagram.specs.TopLaws.{top-constant, top-joined, top-is, top-inside, top-depends}
@@ -32,7 +32,7 @@ use Rattle.diagram.specs.TallyBuildLaws.{build-meaning, build-writes}
 use Rattle.diagram.specs.TallyCasesLaws.{join-same, sum-zero-left, sum-zero-right, sum-multiple, sum-parts}
 use Rattle.diagram.specs.TallyCasesLaws.{cont-zero, cont-constants, cont-sum}
 use Rattle.diagram.specs.TallyCasesLaws.{cont-join, low-constant, low-above, low-here, low-parts, build-constant}
-use Rattle.diagram.specs.TallyCasesLaws.{build-parts}
+use Rattle.diagram.specs.TallyCasesLaws.{build-parts, join-present}
 use Rattle.diagram.specs.Reach.{Reachable, itself, part, Covers, CoversAnswer}
 use Rattle.diagram.specs.TallyCollectLaws.{reachable-unscale, reachable-fix}
 
@@ -53,7 +53,8 @@ covers-constant {d} s w = covers-none s (constant d w) (top-constant d w)
 pub covers-scale : {d : ℕ} (s : Set d) (c : Weight) (A : Tensor d) → Nonzero c → Covers s A → Covers s (scale c A)
 covers-scale s c A n h = record { is = λ x r. h .is x (reachable-unscale c x A n r) }
 
-covers-fix : {d : ℕ} (s : Set d) (k : ℕ) (b : Bool) (A : Tensor d) → FreeBelow k A → Covers s A → Covers s (fix k b A)
+pub covers-fix : {d : ℕ} (s : Set d) (k : ℕ) (b : Bool) (A : Tensor d) → FreeBelow k A → Covers s A
+    → Covers s (fix k b A)
 covers-fix s k b A f h = record { is = λ x r. h .is x (reachable-fix k b x A f r) }
 
 module _ {d : ℕ} (k : ℕ) (L H : Tensor d) (s : Set d) (p : k < d) (f : FreeBelow (suc k) L) (g : FreeBelow (suc k) H)
@@ -214,6 +215,28 @@ build-covers = induction (λ T. (s : Set _) → CoversAnswer (build T s)) step
             (parts-cover k (build (fix k false T)) (build (fix k true T)) s (top-inside k T e) (from k e false)
             (from k e true)
             (writes-grows (build-writes (fix k true T))) (h k false e s) (h k true e _))
+
+-- nothing is put in where all that T reaches is there
+pub build-covered : {d : ℕ} (T : Tensor d) (s : Set d) → Covers s T → build T s ≡ (T, s)
+build-covered = induction (λ T. (s : Set _) → Covers s T → build T s ≡ (T, s)) step
+  where
+    step : {d : ℕ} (T : Tensor d)
+        → ((k : ℕ) (b : Bool) → top T ≡ some k → (s : Set d) → Covers s (fix k b T)
+        → build (fix k b T) s ≡ (fix k b T, s))
+        → (s : Set d) → Covers s T → build T s ≡ (T, s)
+    step T h s c = go (top T) refl
+      where
+        go : (o : Option ℕ) → top T ≡ o → build T s ≡ (T, s)
+        go none e = build-constant T s e
+        go (some k) e =
+            let part : (b : Bool) → build (fix k b T) s ≡ (fix k b T, s) =
+            λ b. h k b e s (covers-fix s k b T (top-is k T e) c) in
+            let differ : same (fix k false T) (fix k true T) ≡ false =
+            cases (same (fix k false T) (fix k true T)) (λ q. absurd (top-depends k T e (same-eq _ _ q))) (λ q. q) in
+            let there : member (normal (joined k (fix k false T) (fix k true T))) s ≡ true =
+            rw (joined-fix k T) (c .is (normal T) (itself k e refl)) in
+            build-parts T s k e (part false) (part true) ∙ join-present k _ _ s differ there
+            ∙ ap (λ X. (X, s)) (joined-fix k T)
 
 -- low
 

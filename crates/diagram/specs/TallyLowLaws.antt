@@ -1,4 +1,4 @@
--- Laws of the tally's low: one step, meaning, scaling.
+-- Laws of the tally's low: one step, meaning.
 use mathlib.Core.Path.{_≡_, refl, ap, ap₂, sym, _∙_}
 use mathlib.Core.Bool.{Bool, true, false}
 use mathlib.Core.Option.{Option, none, some}
@@ -7,21 +7,18 @@ use native.Mathlib.Omega.{arith}
 use native.Mathlib.Nat.{le-refl}
 use lib.Dec.{ltb, eqb}
 use borrow.Author.Tests.{ltb-true, ltb-false, eqb-true, eqb-false}
-use Rattle.field.specs.Weight.{Weight, 0W, Nonzero}
-use Rattle.diagram.specs.Tensor.{Tensor, Bits, branch, at, constant, scale, top, fix, joined, assign, renameDown}
+use Rattle.field.specs.Weight.{0W}
+use Rattle.diagram.specs.Tensor.{Tensor, Bits, branch, at, constant, top, fix, joined, assign, renameDown}
 use Rattle.diagram.specs.TensorLaws.{at-joined, at-fix, fix-fix, fix-joined-other, joined-fix, joined-self}
-use Rattle.diagram.specs.TensorLaws.{fix-scale}
 use Rattle.diagram.specs.TestLaws.{branch-ap}
 use Rattle.diagram.specs.TopLaws.{free-below-fix, free-below-less, free-below-fix-above, free-below-joined}
 use Rattle.diagram.specs.TopLaws.{free-below-top, fix-free-below, top-is, top-inside, top-depends}
 use Rattle.diagram.specs.Top.{FreeBelow, Free}
 use Rattle.diagram.specs.TopLaws.{onTop-step, induction}
 use Rattle.diagram.specs.TopFreeLaws.{free-fix}
-use Rattle.diagram.specs.TensorScaleLaws.{top-scale}
-use Rattle.diagram.specs.Tally.{Set, Unary, Binary, return, join, halves, lowAt, lowCases, lowBody, low}
-use Rattle.diagram.specs.TallyStepLaws.{writes-return, writes-as, writes-join, writes-answer, scaled-return}
-use Rattle.diagram.specs.TallyStep.{Writes, ScaledStep}
-use Rattle.diagram.specs.TallyStepLaws.{scaled-bind, scaled-join}
+use Rattle.diagram.specs.Tally.{Set, Unary, return, join, lowAt, lowCases, lowBody, low}
+use Rattle.diagram.specs.TallyStepLaws.{writes-return, writes-as, writes-join, writes-answer}
+use Rattle.diagram.specs.TallyStep.{Writes}
 use Rattle.diagram.specs.TallyBuildLaws.{halves-local, writes-halves}
 
 -- low
@@ -127,34 +124,3 @@ low-writes k n p = induction (λ A. Free (k - 1) A → Writes (renameDown k A) (
 pub low-meaning : {d : ℕ} (k : ℕ) (A : Tensor d) → 1 ≤ k → k < d → Free (k - 1) A → (s : Set d)
     → low k A s .0 ≡ renameDown k A
 low-meaning k A n p f s = writes-answer (low-writes k n p A f) s
-
--- scaling
-
-scaled-halves : {d : ℕ} {c : Weight} (rec rec' : Unary d) (k : ℕ) (A : Tensor d) (final final' : Binary d)
-    → ((x : Bool) → ScaledStep c (rec (fix k x A)) (rec' (scale c (fix k x A))))
-    → ((L H : Tensor d) → ScaledStep c (final L H) (final' (scale c L) (scale c H)))
-    → ScaledStep c (halves rec k A final) (halves rec' k (scale c A) final')
-unfolding halves
-scaled-halves rec rec' k A final final' p q =
-    simp fix-scale (scaled-bind _ _ (p false) (λ L. scaled-bind _ _ (p true) (λ H. q L H)))
-
-low-at-scaled : {d : ℕ} (c : Weight) → Nonzero c → (k : ℕ) (a e : Bool) (t : ℕ) (A : Tensor d)
-    → ((b : Bool) → ScaledStep c (low k (fix t b A)) (low k (scale c (fix t b A))))
-    → ScaledStep c (lowAt k a e t (low k) A) (lowAt k a e t (low k) (scale c A))
-unfolding lowAt
-low-at-scaled c n k true e t A h = scaled-return c A
-low-at-scaled c n k false true t A h = simp fix-scale (scaled-join c (k - 1) _ _ n)
-low-at-scaled c n k false false t A h =
-    scaled-halves (low k) (low k) t A (join t) (join t) h (λ L H. scaled-join c t L H n)
-
-low-cases-scaled : {d : ℕ} (c : Weight) → Nonzero c → (k : ℕ) (o : Option ℕ) (A : Tensor d)
-    → ((t : ℕ) (b : Bool) → o ≡ some t → ScaledStep c (low k (fix t b A)) (low k (scale c (fix t b A))))
-    → ScaledStep c (lowCases k o (low k) A) (lowCases k o (low k) (scale c A))
-unfolding lowCases
-low-cases-scaled c n k none A h = scaled-return c A
-low-cases-scaled c n k (some t) A h = low-at-scaled c n k _ _ t A (λ b. h t b refl)
-
-pub low-scaled : {d : ℕ} (c : Weight) → Nonzero c → (k : ℕ) (A : Tensor d) → ScaledStep c (low k A) (low k (scale c A))
-unfolding lowBody
-low-scaled c n k = induction (λ A. ScaledStep c (low k A) (low k (scale c A)))
-    (λ A h. rw (low-step k A, low-step k (scale c A), top-scale c A n) (low-cases-scaled c n k (top A) A h))

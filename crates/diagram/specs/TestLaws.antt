@@ -1,6 +1,6 @@
 -- Laws of tests: of Bool, of `branch` and `cond`, and of an option of a number.
 use mathlib.Core.Path.{_≡_, refl, sym}
-use mathlib.Core.Bool.{Bool, true, false, cond, _&&_, _||_, true≢false, false≢true}
+use mathlib.Core.Bool.{Bool, true, false, cond, not, _&&_, _||_, true≢false, false≢true}
 use mathlib.Core.Option.{none, some}
 use Prim.Native.Nat.{ℕ}
 use native.Mathlib.Omega.{arith}
@@ -24,6 +24,15 @@ and-left false b e = e
 pub and-right : (a b : Bool) → (a && b) ≡ true → b ≡ true
 and-right true b e = e
 and-right false b e = absurd (false≢true e)
+
+-- where one of two fails, both together do
+pub and-false-left : (a b : Bool) → not a ≡ true → not (a && b) ≡ true
+and-false-left true b e = absurd (false≢true e)
+and-false-left false b e = refl
+
+pub and-false-right : (a b : Bool) → not b ≡ true → not (a && b) ≡ true
+and-false-right true b e = e
+and-false-right false b e = refl
 
 pub and-same : (b : Bool) → (b && b) ≡ b
 and-same true = refl

@@ -1,6 +1,6 @@
 -- Laws of dependence: on which indices a tensor depends, the top as the lowest of them; of tensors joined at an index.
 use mathlib.Core.Path.{_≡_, refl, ap, ap₂, sym, _∙_}
-use mathlib.Core.Bool.{Bool, true, false, not, _||_, cond}
+use mathlib.Core.Bool.{Bool, true, false, not, _||_, cond, true≢false}
 use mathlib.Core.Option.{none, some}
 use Prim.Native.Nat.{ℕ, zero, suc, _<_}
 use native.Mathlib.Omega.{arith}
@@ -9,7 +9,7 @@ use Rattle.field.specs.Weight.{Weight, Nonzero, 0W, 1W}
 use Rattle.field.specs.RingLaws.{one-nonzero, nonzero-not}
 use Rattle.diagram.specs.Tensor.{Tensor, same, top, fix, depends, joined, scale, weight, split, isZero, first}
 use Rattle.diagram.specs.TensorLaws.{same-eq, eq-same, fix-fix, fix-scale, joined-fix, fix-joined, isZero-eq}
-use Rattle.diagram.specs.TensorLaws.{first-constant}
+use Rattle.diagram.specs.TensorLaws.{fix-again, first-constant}
 use Rattle.diagram.specs.TopLaws.{free-below-top, free-below-less, free-below-suc, fix-free-below, top-is}
 use Rattle.diagram.specs.TopLaws.{top-depends}
 use Rattle.diagram.specs.Top.{FreeBelow, Free}
@@ -31,12 +31,16 @@ depends-free k T e = record { is = same-eq _ _ (go (same (fix k false T) (fix k 
 from-free : {d : ℕ} (k : ℕ) (T : Tensor d) → FreeBelow (suc k) T → Free k T
 from-free k T f = record { is = fix-free-below k false T f ∙ sym (fix-free-below k true T f) }
 
+-- nothing depends on an index below those from which a tensor starts
+pub free-below-depends : {d : ℕ} (k j : ℕ) (T : Tensor d) → FreeBelow k T → j < k → depends j T ≡ false
+free-below-depends k j T f p = free-depends j T (from-free j T (free-below-less (suc j) k T p f))
+
 -- "A tensor's top is the lowest index on which it depends; a constant has none."
 pub top-lowest : {d : ℕ} (k : ℕ) (T : Tensor d) → top T ≡ some k
     → (depends k T ≡ true) × ((j : ℕ) → j < k → depends j T ≡ false)
 top-lowest k T e = (
   cases (depends k T) (λ q. q) (λ q. absurd (top-depends k T e (depends-free k T q .is))),
-  λ j p. free-depends j T (from-free j T (free-below-less (suc j) k T p (top-is k T e))),
+  λ j p. free-below-depends k j T (top-is k T e) p,
 )
 
 pub top-no : {d : ℕ} (T : Tensor d) → top T ≡ none → (j : ℕ) → depends j T ≡ false
@@ -72,6 +76,21 @@ depends-parts k t T n = go (depends k T) refl (depends k (fix t false T)) refl (
         sym p ∙ free-depends k T (fix-free k t T n (depends-free k (fix t false T) q) (depends-free k (fix t true T) r))
     go false p true q c r = sym (free-depends k _ (free-fix k t false T n (depends-free k T p))) ∙ q
     go false p false q c r = sym (free-depends k _ (free-fix k t true T n (depends-free k T p))) ∙ r
+
+-- a part at k depends on no other index than the tensor, and not on k
+pub depends-fix : {d : ℕ} (j k : ℕ) (b : Bool) (T : Tensor d) → depends j (fix k b T) ≡ true
+    → (j ≡ k → ⊥) × (depends j T ≡ true)
+depends-fix j k b T e = (
+  other,
+  cases (depends j T) (λ q. q)
+      (λ q. absurd (true≢false (sym e ∙ free-depends j _ (free-fix j k b T other (depends-free j T q))))),
+)
+  where
+    other : j ≡ k → ⊥
+    other q =
+        true≢false
+        (sym e ∙ ap (λ i. depends i (fix k b T)) q
+        ∙ free-depends k (fix k b T) record { is = fix-again k false b T ∙ sym (fix-again k true b T) })
 
 pub depends-scale : {d : ℕ} (k : ℕ) (c : Weight) (T : Tensor d) → Nonzero c → depends k (scale c T) ≡ depends k T
 unfolding depends

@@ -13,11 +13,11 @@ pub type Epoch = u64;
 pub enum Op {
     Sum,
     Contract,
-    Lower,
+    Lows,
 }
 
 // Everything that a result depends on: the operation, its two nodes (lowering has one, twice), and for sum the ratio of
-// the weights, for contraction the set S, for lowering the index.
+// the weights, for contraction the set S, for lowering the set that goes down.
 pub struct Key {
     pub op: Op,
     pub left: NodeNumber,
@@ -30,7 +30,7 @@ pub enum LookupResult {
     Miss,
 }
 
-pub(crate) fn wide(x: usize) -> u64
+fn wide(x: usize) -> u64
     ensures { λ r. ⌜ r ≡ x ⌝ }
 {
     x as u64
@@ -48,7 +48,7 @@ fn code(op: Op) -> u64
     match op {
         Op::Sum => 0,
         Op::Contract => 1,
-        Op::Lower => 2,
+        Op::Lows => 2,
     }
 }
 

@@ -135,7 +135,7 @@ fn contract_high(
     k: Index,
     l: Edge,
 ) -> Outcome
-    requires { ⌜ HighRequires (now cache) (now store) s a b k l × (m < masks) ⌝ }
+    requires { ⌜ HighRequires (now cache) (now store) s a b k k l × (m < masks) ⌝ }
     ensures { λ r. ⌜ RefinesCached (now (cache .exit)) (now (store .entry)) (now (store .exit)) s
         (highStep (contWithout k m) (combine k m) k (tensorOf (now (store .entry)) s a)
         (tensorOf (now (store .entry)) s b) (tensorOf (now (store .entry)) s l)) r ⌝ }

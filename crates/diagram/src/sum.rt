@@ -93,7 +93,7 @@ fn sum_high(
     k: Index,
     l: Edge,
 ) -> Outcome
-    requires { ⌜ HighRequires (now cache) (now store) s a b k l ⌝ }
+    requires { ⌜ HighRequires (now cache) (now store) s a b k k l ⌝ }
     ensures { λ r. ⌜ RefinesCached (now (cache .exit)) (now (store .entry)) (now (store .exit)) s
         (highStep sums (joins k) k (tensorOf (now (store .entry)) s a) (tensorOf (now (store .entry)) s b)
         (tensorOf (now (store .entry)) s l)) r ⌝ }

@@ -62,6 +62,7 @@ fn call(c: Call) {
         Call::At(a, v) => two(b"at", a, v),
         Call::Cmp(a, b) => two(b"cmp", a, b),
         Call::On(a) => one(b"on", a),
+        Call::Lows(d, a, m) => three(b"lows", d, a, m),
         Call::Refused(r) => one(b"no", text::answer::refusal_number(r)),
     }
 }

@@ -1,10 +1,11 @@
--- Session calls (document 01, "Session calls"; document 02, `on`): a word and its numbers, with the checks that need
--- the line alone.
-use mathlib.Core.Bool.{cond, _&&_}
+-- Session calls (document 01, "Session calls"; document 02, `on` and `lows`): a word and its numbers, with the checks
+-- that need the line alone.
+use mathlib.Core.Path.{_≡_}
+use mathlib.Core.Bool.{false, cond, _&&_}
 use Prim.Native.Nat.{ℕ, _≤_, _<_}
 use lib.Dec.{leb, eqb}
 use Rattle.diagram.specs.Weights.{modulus}
-use Rattle.diagram.specs.Tensor.{masks}
+use Rattle.diagram.specs.Tensor.{bits, masks}
 use Rattle.text.specs.Limits.{lastRegister, lastIndex, lastMask, lastWeight, mostQubits, registerCount}
 use Rattle.text.specs.Args.{noNumbers, oneNumber, twoNumbers, threeNumbers, fourNumbers}
 use Rattle.text.specs.Names.{Placed}
@@ -15,7 +16,7 @@ use Rattle.text.specs.declared.call.Call.{Call}
 use Rattle.text.specs.declared.args.Args.{Args}
 use Rattle.text.specs.declared.words.Word.{Word}
 use Rattle.text.specs.declared.words.Word.the-variants.{Put, Unit as UnitWord, Add, Cont, Low, Drop, Collect, At}
-use Rattle.text.specs.declared.words.Word.the-variants.{Cmp, On, Unknown}
+use Rattle.text.specs.declared.words.Word.the-variants.{Cmp, On, Lows, Unknown}
 use Rattle.text.specs.declared.call.Call.the-variants as call
 
 -- "1 (unknown word, wrong count of fields, malformed number); .. 2 register above 15, 4 out of range, 5 gate name",
@@ -40,6 +41,10 @@ checkRegister d next = cond (leb d lastRegister) next (call.Refused Register)
 -- "4 out of range"
 unfoldable pub checkRange : ℕ → ℕ → ℕ → Call → Call
 checkRange x least most next = cond (leb least x && leb x most) next (call.Refused Range)
+
+-- "Mask bit 0 set, or a mask above 16777215, is 4."
+unfoldable pub checkLowered : ℕ → Call → Call
+checkLowered m next = cond (bits m 0) (call.Refused Range) (checkRange m 0 lastMask next)
 
 -- "6 (both qubits equal)"
 unfoldable pub checkApart : ℕ → ℕ → Call → Call
@@ -71,6 +76,9 @@ callOf At = twoNumbers malformed (λ a v. checkRegister a (checkRange v 0 lastMa
 callOf Cmp = twoNumbers malformed (λ a b. checkRegister a (checkRegister b (call.Cmp a b)))
 -- "`on a` .. it refuses 1, 2 and 3 like `drop`."
 callOf On = oneNumber malformed (λ a. checkRegister a (call.On a))
+-- "The call `lows d a m` .. 1, 2, 3 and 8 are as for `low`."
+callOf Lows =
+    threeNumbers malformed (λ d a m. checkRegister d (checkRegister a (checkLowered m (call.Lows d a m))))
 callOf Unknown = λ args. malformed
 
 -- What a call carries is in range.
@@ -86,4 +94,5 @@ InRange call.Collect = Unit
 InRange (call.At a v) = (a < registerCount) × (v < masks)
 InRange (call.Cmp a b) = (a < registerCount) × (b < registerCount)
 InRange (call.On a) = a < registerCount
+InRange (call.Lows d a m) = (d < registerCount) × ((a < registerCount) × ((bits m 0 ≡ false) × (m < masks)))
 InRange (call.Refused r) = Unit

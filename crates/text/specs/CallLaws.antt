@@ -2,13 +2,14 @@
 use mathlib.Core.Path.{_≡_, refl}
 use mathlib.Core.Bool.{and-false, Bool, true, false, cond, _&&_}
 use mathlib.Core.Logic.{_≢_}
-use Prim.Native.Nat.{ℕ, _≤_, _<_}
+use Prim.Native.Nat.{ℕ, _%_, _≤_, _<_}
 use native.Mathlib.Omega.{arith}
-use borrow.Author.Tests.{le-leb, lt-leb, leb-true, eqb-false}
+use borrow.Author.Tests.{le-leb, lt-leb, leb-true, eqb-false, eq-eqb, ne-eqb}
 use lib.Dec.{leb, eqb}
+use Rattle.diagram.specs.Tensor.{bits, masks}
 use Rattle.text.specs.Limits.{lastRegister, registerCount, lastIndex, lastMask, lastWeight, mostQubits}
 use Rattle.text.specs.Args.{oneNumber, twoNumbers, threeNumbers, fourNumbers}
-use Rattle.text.specs.Call.{checkRegister, checkRange, malformed, InRange, checkApart, callOf}
+use Rattle.text.specs.Call.{checkRegister, checkRange, checkLowered, malformed, InRange, checkApart, callOf}
 use Rattle.text.specs.ArgsLaws.{by-count}
 use Rattle.text.specs.declared.call.Call.{Call}
 use Rattle.text.specs.declared.call.Refusal.the-variants.{Register, Range, Equal}
@@ -69,6 +70,22 @@ on-within x least most next f = go (leb least x) (leb x most) refl refl
     go true false p q = tt
     go false u p q = tt
 
+pub lowered-odd : (m : ℕ) (next : Call) → m % 2 ≡ 1 → Refused Range ≡ checkLowered m next
+unfolding checkLowered bits
+lowered-odd m next e = rw (eq-eqb (m % 2) 1 e)
+
+pub lowered-even : (m : ℕ) (next : Call) → m % 2 ≢ 1 → checkRange m 0 lastMask next ≡ checkLowered m next
+unfolding checkLowered bits
+lowered-even m next n = rw (ne-eqb (m % 2) 1 n)
+
+on-lowered : (m : ℕ) (next : Call) → (bits m 0 ≡ false → m < masks → InRange next) → InRange (checkLowered m next)
+unfolding checkLowered
+on-lowered m next f = go (bits m 0) refl
+  where
+    go : (t : Bool) → bits m 0 ≡ t → InRange (cond t (Refused Range) (checkRange m 0 lastMask next))
+    go true e = tt
+    go false e = on-within m 0 lastMask next (λ l h. f e (omega arith))
+
 pub on-apart : (p q : ℕ) (next : Call) → (p ≢ q → InRange next) → InRange (checkApart p q next)
 unfolding checkApart
 on-apart p q next f = go (eqb p q) refl
@@ -98,4 +115,6 @@ call-ranged word.At args =
     on-two _ (λ a v. on-register a _ (λ p. on-within v 0 lastMask _ (λ l h. (p, omega arith)))) args
 call-ranged word.Cmp args = on-two _ (λ a b. on-register a _ (λ p. on-register b _ (λ q. (p, q)))) args
 call-ranged word.On args = on-one _ (λ a. on-register a _ (λ p. p)) args
+call-ranged word.Lows args =
+    on-three _ (λ d a m. on-register d _ (λ p. on-register a _ (λ q. on-lowered m _ (λ z h. (p, (q, (z, h))))))) args
 call-ranged word.Unknown args = tt

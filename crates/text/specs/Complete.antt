@@ -25,6 +25,7 @@ LowBelow d call.Collect = Unit {0}
 LowBelow d (call.At a v) = Unit {0}
 LowBelow d (call.Cmp a b) = Unit {0}
 LowBelow d (call.On a) = Unit {0}
+LowBelow d (call.Lows r a m) = Unit {0}
 LowBelow d (call.Refused r) = Unit {0}
 
 -- every filled register's cofactors are in the set

@@ -3,7 +3,7 @@ use mathlib.Core.List.{List, [], _∷_}
 use mathlib.Core.Option.{Option, none, some}
 use mathlib.Core.Path.{_≡_, subst, refl, sym}
 use mathlib.Core.Bool.{Bool, true, false, _||_, true≢false, cond}
-use Prim.Native.Nat.{ℕ, _-_, zero, suc, _≤_, _<_, _+_}
+use Prim.Native.Nat.{ℕ, _-_, zero, suc, _+_}
 use native.Mathlib.Omega.{arith}
 use lib.ListN.{set, getD, length}
 use lib.Dec.{leb}
@@ -21,6 +21,8 @@ use Rattle.diagram.specs.TopFreeLaws.{depends-free}
 use Rattle.diagram.specs.SetsNormalLaws.{normal-set-collect, normal-set-empty}
 use Rattle.diagram.specs.TallySetAfterLaws.{sum-set-after, cont-set-after, low-set-after, build-set-after}
 use Rattle.diagram.specs.TallyStep.{SetAfter}
+use Rattle.diagram.specs.Lows.{lows, clash}
+use Rattle.diagram.specs.TallyLowsLaws.{lows-set-after}
 use Rattle.diagram.specs.Gate.{gateTensor, unitTensor}
 use Rattle.text.specs.Text.{Bytes}
 use Rattle.text.specs.Limits.{answerRoom}
@@ -119,6 +121,13 @@ module _ {d : ℕ} (c : Capacity) (t : Tally d) (k : Complete t) where
       go none v = k
       go (some T) v = h T (v T refl)
 
+  -- a step that is not done where the test says 7
+  unless-complete : (b : Bool) (r : ℕ) (f : Step d) → (b ≡ false → SetAfter (t .nodes) (f (t .nodes)))
+      → Complete (cond b (refuse Depends t) (settle c r (f (t .nodes)) t) .1)
+  unfolding refuse
+  unless-complete true r f h = k
+  unless-complete false r f h = settle-complete r f (h refl)
+
   -- a call whose indices are below d leaves a complete tally complete
   pub answer-complete : (x : Call) → LowBelow d x → Complete (answer c x t .1)
   unfolding answer accept refuse return
@@ -138,13 +147,9 @@ module _ {d : ℕ} (c : Capacity) (t : Tally d) (k : Complete t) where
   answer-complete (call.Cont r a b m) i =
       register-complete a _ (λ A p. register-complete b _
       (λ B q. settle-complete r (cont A B (bits m)) (cont-set-after (t .nodes) A B (bits m))))
-  answer-complete (call.Low r a j) i = register-complete a _ (λ A p. lowered r j A i p (depends (j - 1) A) refl)
-    where
-      lowered : (r j : ℕ) (A : Tensor d) → (1 ≤ j) × (j < d) → Covers (t .nodes) A → (b : Bool) → depends (j - 1) A ≡ b
-          → Complete (cond b (refuse Depends t) (settle c r (low j A (t .nodes)) t) .1)
-      lowered r j A i p true e = k
-      lowered r j A i p false e =
-          settle-complete r (low j A) (low-set-after (t .nodes) j A (i .0) (i .1) (depends-free (j - 1) A e) p)
+  answer-complete (call.Low r a j) i =
+      register-complete a _ (λ A p. unless-complete (depends (j - 1) A) r (low j A)
+      (λ e. low-set-after (t .nodes) j A (i .0) (i .1) (depends-free (j - 1) A e) p))
   answer-complete (call.Drop a) i =
       register-complete a _ (λ A p. record {
         normal = k .normal;
@@ -157,6 +162,9 @@ module _ {d : ℕ} (c : Capacity) (t : Tally d) (k : Complete t) where
   answer-complete (call.At a v) i = register-complete a _ (λ A p. k)
   answer-complete (call.Cmp a b) i = register-complete a _ (λ A p. register-complete b _ (λ B q. k))
   answer-complete (call.On a) i = register-complete a _ (λ A p. k)
+  answer-complete (call.Lows r a m) i =
+      register-complete a _ (λ A p. unless-complete (clash (bits m) A) r (lows (bits m) A)
+      (λ e. lows-set-after (t .nodes) (bits m) A))
   answer-complete (call.Refused r) i = k
 
   -- "the set keeps exactly the normal multiples of the nonconstant tensors got from filled registers": a filter loses
@@ -185,6 +193,7 @@ ranged-low-below call.Collect h = tt
 ranged-low-below (call.At a v) h = tt
 ranged-low-below (call.Cmp a b) h = tt
 ranged-low-below (call.On a) h = tt
+ranged-low-below (call.Lows r a m) h = tt
 ranged-low-below (call.Refused r) h = tt
 
 module _ (c : Capacity) (room : ℕ) where

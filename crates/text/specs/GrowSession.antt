@@ -33,6 +33,7 @@ touches d call.Collect = true
 touches d (call.At a v) = true
 touches d (call.Cmp a b) = true
 touches d (call.On a) = true
+touches d (call.Lows r a m) = ltb m (2 ^ d)
 touches d (call.Refused r) = true
 
 unfoldable pub allTouch : ℕ → List NumberedCall → Bool

@@ -11,6 +11,8 @@ use lib.ListN.{length, getD, set}
 use Rattle.diagram.specs.Tensor.{bits, Tensor, constant, depends}
 use Rattle.diagram.specs.TallyGrowLaws.{length-grow, sum-grow, cont-grow, build-grow, low-grow}
 use Rattle.diagram.specs.TallyGrowLaws.{grows-answer, collect-grow}
+use Rattle.diagram.specs.Lows.{lows, clash}
+use Rattle.diagram.specs.TallyLowsGrowLaws.{lows-grow, clash-grow}
 use Rattle.diagram.specs.Gate.{shape, gateTensor, unitTensor, ShapeBelow, GateBelow}
 use Rattle.diagram.specs.TestLaws.{and-left, and-right}
 use Rattle.diagram.specs.Weights.{Weight, toWeight}
@@ -143,17 +145,28 @@ module _ {d : ℕ} (m : ℕ) where
       (λ A. grow-register t b _ _
       (λ B. grow-settle c r (cont A B (bits x)) (cont (grow m A) (grow m B) (bits x)) t (cont-grow m A B (bits x) h)))
 
+  -- a step that is not done where the test says 7
+  grow-unless : (c : Capacity) (b : Bool) (r : ℕ) (f : Step d) (g : Step (deeper d m)) (t : Tally d) → StepGrows m f g
+      → cond b (refuse Depends (growTally m t)) (settle c r (g (growAll m (t .nodes))) (growTally m t))
+      ≡ growReply m (cond b (refuse Depends t) (settle c r (f (t .nodes)) t))
+  grow-unless c true r f g t h = grow-refuse Depends t
+  grow-unless c false r f g t h = grow-settle c r f g t h
+
   grow-low : (c : Capacity) (r a k : ℕ) (t : Tally d) → k < d
       → answer c (call.Low r a k) (growTally m t) ≡ growReply m (answer c (call.Low r a k) t)
   unfolding answer growTally
-  grow-low c r a k t p = grow-register t a _ _ (λ A. rw (grow-depends m (k - 1) A) (go (depends (k - 1) A) A))
-    where
-      go : (b : Bool) (A : Tensor d)
-          → cond b (refuse Depends (growTally m t))
-          (settle c r (low k (grow m A) (growAll m (t .nodes))) (growTally m t))
-          ≡ growReply m (cond b (refuse Depends t) (settle c r (low k A (t .nodes)) t))
-      go true A = grow-refuse Depends t
-      go false A = grow-settle c r (low k A) (low k (grow m A)) t (low-grow m k p A)
+  grow-low c r a k t p =
+      grow-register t a _ _
+      (λ A. rw (grow-depends m (k - 1) A) (grow-unless c (depends (k - 1) A) r (low k A) (low k (grow m A)) t
+      (low-grow m k p A)))
+
+  grow-lows : (c : Capacity) (r a x : ℕ) (t : Tally d) → MembersBelow d (bits x)
+      → answer c (call.Lows r a x) (growTally m t) ≡ growReply m (answer c (call.Lows r a x) t)
+  unfolding answer growTally
+  grow-lows c r a x t h =
+      grow-register t a _ _
+      (λ A. rw (clash-grow m (bits x) A h) (grow-unless c (clash (bits x) A) r (lows (bits x) A)
+      (lows (bits x) (grow m A)) t (lows-grow m (bits x) A)))
 
   grow-drop : (c : Capacity) (a : ℕ) (t : Tally d)
       → answer c (call.Drop a) (growTally m t) ≡ growReply m (answer c (call.Drop a) t)
@@ -206,6 +219,7 @@ module _ {d : ℕ} (m : ℕ) where
   grow-answer c (call.At a v) t e = grow-at c a v t
   grow-answer c (call.Cmp a b) t e = grow-cmp c a b t
   grow-answer c (call.On a) t e = grow-on c a t
+  grow-answer c (call.Lows r a x) t e = grow-lows c r a x t (λ j q. bits-above d x j (ltb-true x (2 ^ d) e) q)
   grow-answer c (call.Refused r) t e = unfold answer in grow-refuse r t
 
   -- calls and lines, one after another

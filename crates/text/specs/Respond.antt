@@ -24,6 +24,7 @@ Forgets call.Collect = Forgotten
 Forgets (call.At a v) = FullForgets
 Forgets (call.Cmp a b) = FullForgets
 Forgets (call.On a) = FullForgets
+Forgets (call.Lows d a m) = FullForgets
 Forgets (call.Refused why) = λ c' r. Unit {0}
 
 -- The call answers as the tally's does, and leaves what the tally's leaves.

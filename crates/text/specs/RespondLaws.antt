@@ -2,12 +2,12 @@
 use mathlib.Core.Path.{_≡_, subst, sym, ap, _∙_, refl}
 use mathlib.Core.List.{List}
 use mathlib.Core.Logic.{_≢_}
-use mathlib.Core.Bool.{false, true, false≢true}
+use mathlib.Core.Bool.{Bool, false, cond, false≢true}
 use Prim.Native.Nat.{_-_, ℕ, _<_}
 use native.Mathlib.Omega.{arith}
 use lib.ListN.{set}
 use Rattle.diagram.specs.InvariantLaws.{holds-read, read-valid, invariant-clear, invariant-collect}
-use Rattle.diagram.specs.Tensor.{Tensor, indices, bits, constant, value, masks}
+use Rattle.diagram.specs.Tensor.{Tensor, indices, bits, constant, depends, value, masks}
 use Rattle.diagram.specs.Store.{setOf, tensorOf, Refines}
 use Rattle.diagram.specs.StoreLaws.{set-length}
 use Rattle.diagram.specs.Registers.{GetEnsures, RegistersValid, emptyRegister, holds}
@@ -15,7 +15,8 @@ use Rattle.diagram.specs.RegistersLaws.{holds-set}
 use Rattle.diagram.specs.Node.{capacity}
 use Rattle.diagram.specs.Weights.{toWeight, Represents, modulus}
 use Rattle.diagram.specs.WeightsLaws.{represents-number}
-use Rattle.diagram.specs.Tally.{Step, return, sum, cont, build}
+use Rattle.diagram.specs.Tally.{Step, return, sum, cont, low, build}
+use Rattle.diagram.specs.Lows.{lows, clash}
 use Rattle.diagram.specs.Gate.{gateTensor, unitTensor}
 use Rattle.diagram.specs.Compare.{ComparisonMeans, compared, CompareEnsures}
 use Rattle.diagram.specs.CompareLaws.{compared-means}
@@ -27,7 +28,7 @@ use Rattle.text.specs.Answer.{isNo, SmallAnswer}
 use Rattle.text.specs.Session.{TallyReply, refuse, withTensor, withRegister, atMost, answer, settle, comparison}
 use Rattle.text.specs.Session.{nodeCount, accept}
 use Rattle.text.specs.Engine.{EngineInvariant, tallyOf, RefuseEnsures, FullForgets, SetsRegister, SettleEnsures}
-use Rattle.text.specs.Operate.{LowEnsures}
+use Rattle.text.specs.Operate.{SetsUnless}
 use Rattle.text.specs.Respond.{RespondEnsures, ReadEnsures, PureEnsures, Forgets}
 use Rattle.text.specs.EngineLaws.{sets-register-constant, sets-register-step, never-full}
 use Rattle.text.specs.declared.call.Call.{Call}
@@ -35,7 +36,7 @@ use Rattle.text.specs.declared.engine.Engine.{Engine}
 use Rattle.text.specs.declared.engine.Reply.{Reply}
 use Rattle.diagram.specs.declared.node.Edge.{Edge}
 use Rattle.diagram.specs.declared.registers.RegisterContent.{RegisterContent}
-use Rattle.text.specs.declared.call.Refusal.the-variants.{Empty}
+use Rattle.text.specs.declared.call.Refusal.the-variants.{Empty, Depends}
 use Rattle.text.specs.declared.answer.Answer.{Answer}
 use Rattle.text.specs.declared.answer.Answer.the-variants.{Ok, No, Value, Same, Factor, Differ, Mask}
 use Rattle.text.specs.declared.call.Refusal.{Refusal}
@@ -133,6 +134,10 @@ module _ {c s : List ℕ} {e : Engine} {r : Reply} (p : EngineInvariant c s e) w
     unfolding answer
     empty-low = refused-empty (λ k. k) f (operand-empty s e g _ q)
 
+    pub empty-lows : {d m : ℕ} → RespondEnsures c s s e (call.Lows d a m) r
+    unfolding answer
+    empty-lows = refused-empty (λ k. k) f (operand-empty s e g _ q)
+
   -- the second operand
   module _ {a b : ℕ} {h g : RegisterContent} {x : Edge} (i : GetEnsures (e .registers .all) a h)
       (o : h ≡ content.Edge x)
@@ -229,17 +234,34 @@ module _ {c' s s' : List ℕ} {e : Engine} {d : ℕ} {r : Reply} where
     unfolding answer tallyOf
     responds-cont w = sets-register-as (λ z. z) (operand s e i _ o ∙ operand s e j _ q) w
 
-pub responds-low : {c' s s' : List ℕ} {e : Engine} {d a k : ℕ} {h : RegisterContent} {x : Edge} {r : Reply}
-    → GetEnsures (e .registers .all) a h → h ≡ content.Edge x
-    → LowEnsures c' s s' e d k x r → RespondEnsures c' s s' e (call.Low d a k) r
-unfolding answer tallyOf
-responds-low {s = s} {e = e} i o w = record {
-  invariant = w .invariant;
-  small = w .small;
-  is = operand s e i _ o ∙ w .is;
-  refused = w .refused;
-  forgets = w .forgets;
-}
+-- the calls that set it unless they are refused by 7
+
+module _ {c' s s' : List ℕ} {e : Engine} {d a : ℕ} {h : RegisterContent} {x : Edge} {r : Reply}
+    (i : GetEnsures (e .registers .all) a h) (o : h ≡ content.Edge x) where
+  sets-unless-as : {test : Bool} {f : Step indices} {y : Call} → (FullForgets c' r → Forgets y c' r)
+      → answer (atMost (capacity s)) y (tallyOf s e) ≡ cond test (refuse Depends (tallyOf s e))
+      (settle (atMost (capacity s)) d (f (setOf s (e .state))) (tallyOf s e))
+      → SetsUnless c' s s' e d test f r → RespondEnsures c' s s' e y r
+  sets-unless-as n q w =
+      record {
+        invariant = w .invariant;
+        small = w .small;
+        is = q ∙ w .is;
+        refused = w .refused;
+        forgets = n (w .forgets);
+      }
+
+  pub responds-low : {k : ℕ}
+      → SetsUnless c' s s' e d (depends (k - 1) (tensorOf s (e .state) x)) (low k (tensorOf s (e .state) x)) r
+      → RespondEnsures c' s s' e (call.Low d a k) r
+  unfolding answer tallyOf
+  responds-low w = sets-unless-as (λ z. z) (operand s e i _ o) w
+
+  pub responds-lows : {m : ℕ}
+      → SetsUnless c' s s' e d (clash (bits m) (tensorOf s (e .state) x)) (lows (bits m) (tensorOf s (e .state) x)) r
+      → RespondEnsures c' s s' e (call.Lows d a m) r
+  unfolding answer tallyOf
+  responds-lows w = sets-unless-as (λ z. z) (operand s e i _ o) w
 
 -- the others
 

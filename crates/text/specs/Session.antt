@@ -1,7 +1,7 @@
--- The tally of a session (document 01, "The tally" and "Session calls"; document 02, `on`): "the plain machine that
--- sessions are compared with. It is fed the session's lines, the capacity and the length of the output, and nothing
--- that the engine holds or answers." d is the number of indices: 24 in the engine, fewer where the checker computes a
--- session.
+-- The tally of a session (document 01, "The tally" and "Session calls"; document 02, `on` and `lows`): "the plain
+-- machine that sessions are compared with. It is fed the session's lines, the capacity and the length of the output,
+-- and nothing that the engine holds or answers." d is the number of indices: 24 in the engine, fewer where the checker
+-- computes a session.
 use mathlib.Core.Bool.{Bool, true, cond}
 use mathlib.Core.List.{List, [], _++_, _∷_}
 use mathlib.Core.Option.{Option, none, some}
@@ -14,6 +14,7 @@ use Rattle.diagram.specs.Weights.{toWeight}
 use Rattle.diagram.specs.Gate.{gateTensor, unitTensor}
 use Rattle.diagram.specs.Compare.{compared}
 use Rattle.diagram.specs.Support.{supportMask}
+use Rattle.diagram.specs.Lows.{lows, clash}
 use Rattle.text.specs.Text.{lines}
 use Rattle.text.specs.Limits.{registerCount, answerRoom}
 use Rattle.text.specs.Line.{readLine}
@@ -110,6 +111,9 @@ answer c (call.At a v) t = withRegister t a (λ A. (Value (value A v .number), t
 answer c (call.Cmp a b) t = withRegister t a (λ A. withRegister t b (λ B. (comparison (compared A B), t)))
 -- "`on a` answers `m` and the register's mask": bit k is set exactly when the tensor depends on index k
 answer c (call.On a) t = withRegister t a (λ A. (Mask (supportMask A), t))
+-- "`lows d a m` lowers every index of the set m at the same moment. .. A clash is 7, in the place that `low` has it"
+answer c (call.Lows r a m) t =
+    withRegister t a (λ A. cond (clash (bits m) A) (refuse Depends t) (settle c r (lows (bits m) A (t .nodes)) t))
 -- what the line's reader refused
 answer c (call.Refused r) t = refuse r t
 

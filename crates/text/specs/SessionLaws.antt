@@ -8,7 +8,8 @@ use native.Mathlib.Omega.{arith}
 use lib.Dec.{leb}
 use lib.ListN.{length, getD, set}
 use borrow.Author.Tests.{le-leb, leb-true}
-use Rattle.diagram.specs.Tensor.{Tensor, depends}
+use Rattle.diagram.specs.Tensor.{Tensor, bits, depends}
+use Rattle.diagram.specs.Lows.{clash}
 use Rattle.diagram.specs.Tally.{Set, member, keepOnly, collect}
 use Rattle.text.specs.Text.{Bytes}
 use Rattle.text.specs.Limits.{answerRoom}
@@ -70,11 +71,11 @@ module _ {d : ℕ} (c : Capacity) (t : Tally d) where
       go none e = refl
       go (some T) e = h T e
 
-  kept-low : (b : Bool) (r : ℕ) (y : Tensor d × Set d) → UnchangedIfRefused t
+  kept-unless : (b : Bool) (r : ℕ) (y : Tensor d × Set d) → UnchangedIfRefused t
       (cond b (refuse Depends t) (settle c r y t))
   unfolding refuse
-  kept-low true r y = λ e. refl
-  kept-low false r y = kept-settle r y
+  kept-unless true r y = λ e. refl
+  kept-unless false r y = kept-settle r y
 
   pub refused-leaves : (x : Call) → isNo (answer c x t .0) ≡ true → answer c x t .1 ≡ t
   unfolding answer accept refuse
@@ -83,12 +84,13 @@ module _ {d : ℕ} (c : Capacity) (t : Tally d) where
   refused-leaves (call.Unit r n) = kept-settle r _
   refused-leaves (call.Add r a b) = kept-register a _ (λ A. kept-register b _ (λ B. kept-settle r _))
   refused-leaves (call.Cont r a b m) = kept-register a _ (λ A. kept-register b _ (λ B. kept-settle r _))
-  refused-leaves (call.Low r a k) = kept-register a _ (λ A. kept-low (depends (k - 1) A) r _)
+  refused-leaves (call.Low r a k) = kept-register a _ (λ A. kept-unless (depends (k - 1) A) r _)
   refused-leaves (call.Drop a) = kept-register a _ (λ A e. absurd (false≢true e))
   refused-leaves call.Collect = λ e. absurd (false≢true e)
   refused-leaves (call.At a v) = kept-register a _ (λ A e. refl)
   refused-leaves (call.Cmp a b) = kept-register a _ (λ A. kept-register b _ (λ B e. refl))
   refused-leaves (call.On a) = kept-register a _ (λ A e. refl)
+  refused-leaves (call.Lows r a m) = kept-register a _ (λ A. kept-unless (clash (bits m) A) r _)
   refused-leaves (call.Refused r) = λ e. refl
 
 -- The tally's set never exceeds the capacity, so `put`, which puts nothing in, is never refused as full.
@@ -129,10 +131,10 @@ module _ {d : ℕ} (c : Capacity) (t : Tally d) (h : fits c (nodeCount t) ≡ tr
       go none = h
       go (some T) = k T
 
-  fit-low : (b : Bool) (r : ℕ) (y : Tensor d × Set d) → Fit (cond b (refuse Depends t) (settle c r y t))
+  fit-unless : (b : Bool) (r : ℕ) (y : Tensor d × Set d) → Fit (cond b (refuse Depends t) (settle c r y t))
   unfolding refuse
-  fit-low true r y = h
-  fit-low false r y = fit-settle r y
+  fit-unless true r y = h
+  fit-unless false r y = fit-settle r y
 
   pub answer-fits : (x : Call) → fits c (nodeCount (answer c x t .1)) ≡ true
   unfolding answer accept refuse nodeCount collect
@@ -141,12 +143,13 @@ module _ {d : ℕ} (c : Capacity) (t : Tally d) (h : fits c (nodeCount t) ≡ tr
   answer-fits (call.Unit r n) = fit-settle r _
   answer-fits (call.Add r a b) = fit-register a _ (λ A. fit-register b _ (λ B. fit-settle r _))
   answer-fits (call.Cont r a b m) = fit-register a _ (λ A. fit-register b _ (λ B. fit-settle r _))
-  answer-fits (call.Low r a k) = fit-register a _ (λ A. fit-low (depends (k - 1) A) r _)
+  answer-fits (call.Low r a k) = fit-register a _ (λ A. fit-unless (depends (k - 1) A) r _)
   answer-fits (call.Drop a) = fit-register a _ (λ A. h)
   answer-fits call.Collect = fits-fewer c _ (length (t .nodes)) (keep-only-fewer _ (t .nodes)) h
   answer-fits (call.At a v) = fit-register a _ (λ A. h)
   answer-fits (call.Cmp a b) = fit-register a _ (λ A. fit-register b _ (λ B. h))
   answer-fits (call.On a) = fit-register a _ (λ A. h)
+  answer-fits (call.Lows r a m) = fit-register a _ (λ A. fit-unless (clash (bits m) A) r _)
   answer-fits (call.Refused r) = h
 
   -- "`put d w` .. Refuses 1, 2, 4."

@@ -14,7 +14,7 @@ use diagram::gate::QubitCount;
 use diagram::node::Index;
 use diagram::registers::RegisterNumber;
 ghost use mathlib.Core.Path.{_≡_};
-ghost use Rattle.text.specs.Call.{checkRange, checkRegister, callOf};
+ghost use Rattle.text.specs.Call.{checkRange, checkRegister, checkLowered, callOf};
 
 pub enum Refusal {
     Malformed,
@@ -40,6 +40,7 @@ pub enum Call {
     At(RegisterNumber, Assignment),
     Cmp(RegisterNumber, RegisterNumber),
     On(RegisterNumber),
+    Lows(RegisterNumber, RegisterNumber, Mask),
     Refused(Refusal),
 }
 
@@ -161,6 +162,25 @@ fn on(args: Args) -> Call
     check_register(a, Call::On(a))
 }
 
+// The call, if the set m can go down: it has no index 0, nor one above the last.
+fn check_lowered(m: Mask, call: Call) -> Call
+    ensures { λ r. ⌜ r ≡ checkLowered m call ⌝ }
+{
+    if m % 2 == 1 {
+        return Call::Refused(Refusal::Range);
+    }
+    check_range(m, 0, LAST_MASK, call)
+}
+
+fn lows(args: Args) -> Call
+    ensures { λ r. ⌜ r ≡ callOf Word.Lows args ⌝ }
+{
+    let Args::Three(d, a, m) = args else {
+        return Call::Refused(Refusal::Malformed);
+    };
+    check_register(d, check_register(a, check_lowered(m, Call::Lows(d, a, m))))
+}
+
 // The call of a word, other than `gate`, with these numbers.
 pub fn make(word: Word, args: Args) -> Call
     ensures { λ r. ⌜ r ≡ callOf word args ⌝ }
@@ -176,6 +196,7 @@ pub fn make(word: Word, args: Args) -> Call
         Word::At => at(args),
         Word::Cmp => cmp(args),
         Word::On => on(args),
+        Word::Lows => lows(args),
         Word::Unknown => Call::Refused(Refusal::Malformed),
     }
 }

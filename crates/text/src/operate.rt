@@ -18,10 +18,13 @@ use diagram::registers::RegisterNumber;
 use diagram::sum;
 use diagram::support;
 use diagram::unit;
-ghost use Prim.Native.Nat.{_≤_, _<_};
-ghost use Rattle.diagram.specs.Tensor.{bits, masks};
-ghost use Rattle.diagram.specs.Tally.{sum as sums, cont as conts, low as lows};
-ghost use Rattle.diagram.specs.Lower.{LowerRequires};
+ghost use mathlib.Core.Path.{_≡_};
+ghost use mathlib.Core.Bool.{false};
+ghost use Prim.Native.Nat.{_-_, _≤_, _<_};
+ghost use Rattle.diagram.specs.Tensor.{bits, depends, masks};
+ghost use Rattle.diagram.specs.Tally.{sum as sums, cont as conts, low as lowOf};
+ghost use Rattle.diagram.specs.Lows.{lows as lowsOf, clash};
+ghost use Rattle.diagram.specs.Lower.{LowerRequires, LowsRequires};
 ghost use Rattle.diagram.specs.Meaning.{Valid};
 ghost use Rattle.diagram.specs.Store.{tensorOf};
 ghost use Rattle.text.specs.Limits.{lastIndex, mostQubits, registerCount};
@@ -30,7 +33,7 @@ ghost use Rattle.text.specs.Call.{InRange};
 ghost use Rattle.text.specs.Engine.{EngineInvariant, SetsRegister};
 ghost use Rattle.text.specs.Apply.{applyStep};
 ghost use Rattle.text.specs.Respond.{RespondEnsures};
-ghost use Rattle.text.specs.Operate.{LowEnsures};
+ghost use Rattle.text.specs.Operate.{SetsUnless};
 ghost use Rattle.text.specs.declared.call.Call.the-variants as call;
 
 pub(crate) fn put(
@@ -119,7 +122,7 @@ pub(crate) fn cont(
     engine::settle(store, cache, engine, d, outcome)
 }
 
-// Index k is renamed k - 1.
+// Index k is renamed k - 1, in a tensor that does not depend on k - 1.
 fn lower(
     store: &mut [u8],
     cache: &mut [u64],
@@ -131,13 +134,13 @@ fn lower(
     requires { ⌜ EngineInvariant (now cache) (now store) engine ×
         ((d < registerCount) × (Valid (engine .state .count) a × LowerRequires (now store) (engine .state) a k)) ⌝ }
     ensures { λ r. ⌜ SetsRegister (now (cache .exit)) (now (store .entry)) (now (store .exit)) engine d
-        (lows k (tensorOf (now (store .entry)) (engine .state) a)) r ⌝ }
+        (lowOf k (tensorOf (now (store .entry)) (engine .state) a)) r ⌝ }
 {
     let outcome = lower::lower(store, cache, engine.state, a, k);
     engine::settle(store, cache, engine, d, outcome)
 }
 
-// Index k is renamed k - 1.
+// The same, or 7 where it depends on k - 1.
 pub(crate) fn low(
     store: &mut [u8],
     cache: &mut [u64],
@@ -148,13 +151,54 @@ pub(crate) fn low(
 ) -> Reply
     requires { ⌜ EngineInvariant (now cache) (now store) engine ×
         ((d < registerCount) × (Valid (engine .state .count) a × ((1 ≤ k) × (k ≤ lastIndex)))) ⌝ }
-    ensures { λ r. ⌜ LowEnsures (now (cache .exit)) (now (store .entry)) (now (store .exit)) engine d k a r ⌝ }
+    ensures { λ r. ⌜ SetsUnless (now (cache .exit)) (now (store .entry)) (now (store .exit)) engine d
+        (depends (k - 1) (tensorOf (now (store .entry)) (engine .state) a))
+        (lowOf k (tensorOf (now (store .entry)) (engine .state) a)) r ⌝ }
 {
-    let j = k - 1;
-    if support::depends(store, engine.state, a, j) {
+    if support::depends(store, engine.state, a, k - 1) {
         return engine::refuse(engine, Refusal::Depends);
     }
     lower(store, cache, engine, d, a, k)
+}
+
+// The indices of m are renamed to the ones before them, where there is no clash.
+fn lower_set(
+    store: &mut [u8],
+    cache: &mut [u64],
+    engine: Engine,
+    d: RegisterNumber,
+    a: Edge,
+    m: Mask,
+) -> Reply
+    requires { ⌜ EngineInvariant (now cache) (now store) engine ×
+        ((d < registerCount) × (Valid (engine .state .count) a × LowsRequires (now store) (engine .state) a m)) ⌝ }
+    ensures { λ r. ⌜ SetsRegister (now (cache .exit)) (now (store .entry)) (now (store .exit)) engine d
+        (lowsOf (bits m) (tensorOf (now (store .entry)) (engine .state) a)) r ⌝ }
+{
+    let mask = m as u64;
+    let outcome = lower::lows(store, cache, engine.state, a, mask);
+    engine::settle(store, cache, engine, d, outcome)
+}
+
+// The same, or 7 where there is a clash.
+pub(crate) fn lows(
+    store: &mut [u8],
+    cache: &mut [u64],
+    engine: Engine,
+    d: RegisterNumber,
+    a: Edge,
+    m: Mask,
+) -> Reply
+    requires { ⌜ EngineInvariant (now cache) (now store) engine ×
+        ((d < registerCount) × (Valid (engine .state .count) a × ((bits m 0 ≡ false) × (m < masks)))) ⌝ }
+    ensures { λ r. ⌜ SetsUnless (now (cache .exit)) (now (store .entry)) (now (store .exit)) engine d
+        (clash (bits m) (tensorOf (now (store .entry)) (engine .state) a))
+        (lowsOf (bits m) (tensorOf (now (store .entry)) (engine .state) a)) r ⌝ }
+{
+    if lower::clash(store, engine.state, a, m as u64) {
+        return engine::refuse(engine, Refusal::Depends);
+    }
+    lower_set(store, cache, engine, d, a, m)
 }
 
 // The gate g applied to a.

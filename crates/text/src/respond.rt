@@ -1,5 +1,5 @@
-// What a call does and answers (document 01, "Session calls"; document 02, `on`). Its line was read, so 1, 2, 4, 5 and
-// 6 are past: "3 from the left; 7; 8".
+// What a call does and answers (document 01, "Session calls"; document 02, `on` and `lows`). Its line was read, so 1,
+// 2, 4, 5 and 6 are past: "3 from the left; 7; 8".
 use crate::answer::Answer;
 use crate::call::Call;
 use crate::call::Refusal;
@@ -165,6 +165,24 @@ fn on(store: &[u8], engine: Engine, a: RegisterNumber) -> Reply
     Reply { answer, engine }
 }
 
+fn lows(
+    store: &mut [u8],
+    cache: &mut [u64],
+    engine: Engine,
+    d: RegisterNumber,
+    a: RegisterNumber,
+    m: Mask,
+) -> Reply
+    requires { ⌜ EngineInvariant (now cache) (now store) engine × InRange (call.Lows d a m) ⌝ }
+    ensures { λ r. ⌜ RespondEnsures (now (cache .exit)) (now (store .entry)) (now (store .exit)) engine
+        (call.Lows d a m) r ⌝ }
+{
+    let RegisterContent::Edge(x) = registers::get(engine.registers, a) else {
+        return engine::refuse(engine, Refusal::Empty);
+    };
+    operate::lows(store, cache, engine, d, x, m)
+}
+
 pub(crate) fn respond(store: &mut [u8], cache: &mut [u64], engine: Engine, call: Call) -> Reply
     requires { ⌜ EngineInvariant (now cache) (now store) engine × InRange call ⌝ }
     ensures { λ r. ⌜ RespondEnsures (now (cache .exit)) (now (store .entry)) (now (store .exit)) engine call r ⌝ }
@@ -181,6 +199,7 @@ pub(crate) fn respond(store: &mut [u8], cache: &mut [u64], engine: Engine, call:
         Call::At(a, v) => at(store, engine, a, v),
         Call::Cmp(a, b) => cmp(engine, a, b),
         Call::On(a) => on(store, engine, a),
+        Call::Lows(d, a, m) => lows(store, cache, engine, d, a, m),
         Call::Refused(r) => engine::refuse(engine, r),
     }
 }

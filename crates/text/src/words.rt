@@ -16,6 +16,7 @@ pub enum Word {
     At,
     Cmp,
     On,
+    Lows,
     Unknown,
 }
 
@@ -31,6 +32,7 @@ pub(crate) fn read(s: &[u8]) -> Word
     ensures { λ r. ⌜ r ≡ wordOf (now (s .entry)) ⌝ }
 {
     let w = Word::Unknown;
+    let w = choose(s, b"lows", Word::Lows, w);
     let w = choose(s, b"on", Word::On, w);
     let w = choose(s, b"cmp", Word::Cmp, w);
     let w = choose(s, b"at", Word::At, w);

@@ -9,6 +9,11 @@ use tally::line;
 use tally::session::Tally;
 use tally::tensor::members;
 
+/// The sets of all indices, of the qubits' middles and of their fresh indices.
+pub const ALL: u32 = 0xFF_FFFF;
+const MIDDLES: u32 = 0o2222_2222;
+const FRESH: u32 = 0o4444_4444;
+
 pub struct Draft<'a> {
     pub rng: &'a mut Rng,
     pub text: Vec<u8>,
@@ -90,15 +95,16 @@ impl Draft<'_> {
         self.say(&format!("gate {d} {}{qubits}", gate.name.word()));
     }
 
-    /// The gate applied to register d by way of register t, as a verdict does it.
+    /// The gate applied to register d by way of register t, as a verdict does it, or with its fresh
+    /// indices lowered together.
     pub fn apply(&mut self, gate: &Gate, d: usize, t: usize) {
         let m = gate.qubits.iter().fold(0, |m, &q| m | 1u32 << middle(q));
-        let mut rising = gate.qubits.clone();
-        rising.sort_unstable();
+        let lowered = gate.qubits.iter().fold(0, |m, &q| m | 1 << fresh(q));
         self.gate(t, gate);
         self.say(&format!("cont {d} {t} {d} {m}"));
-        for q in rising {
-            self.say(&format!("low {d} {d} {}", fresh(q)));
+        match self.rng.percent(40) {
+            true => self.say(&format!("lows {d} {d} {lowered}")),
+            false => self.singly(d, d, lowered),
         }
         if self.rng.percent(70) {
             self.say(&format!("drop {t}"));
@@ -108,10 +114,18 @@ impl Draft<'_> {
         }
     }
 
+    /// Register d becomes a with the indices of m lowered one after the other, in rising order.
+    pub fn singly(&mut self, d: usize, a: usize, m: u32) {
+        let operands = std::iter::once(a).chain(std::iter::repeat(d));
+        for (k, a) in members(m).zip(operands) {
+            self.say(&format!("low {d} {a} {k}"));
+        }
+    }
+
     /// A set to contract two registers over: indices of theirs, any indices, or none.
     pub fn mask(&mut self, a: usize, b: usize) -> u32 {
         let (a, b) = (self.support(a), self.support(b));
-        let some = self.rng.next() as u32 & 0xFF_FFFF;
+        let some = self.rng.next() as u32 & ALL;
         match self.rng.weighted(&[35, 25, 15, 10, 15]) {
             0 => (a | b) & some,
             1 => a & b,
@@ -130,4 +144,43 @@ impl Draft<'_> {
         }
         *self.rng.pick(&free)
     }
+
+    /// A set of indices of register a to lower together, mostly one that may be lowered; now and
+    /// then one that clashes, has index 0, is too large or is empty.
+    pub fn lowered_set(&mut self, a: usize) -> u32 {
+        let support = self.support(a);
+        let some = self.rng.next() as u32 & ALL;
+        match self.rng.weighted(&[20, 20, 15, 5, 10, 10, 6, 4, 4, 3, 3]) {
+            0 => free(support, support),
+            1 => free(support, support & some),
+            2 => free(support, some),
+            3 => free(support, ALL),
+            4 => run(self.rng),
+            5 => some & *self.rng.pick(&[MIDDLES, FRESH, MIDDLES | FRESH]),
+            6 => (support << 1 | support >> 1) & ALL & !1,
+            7 => support,
+            8 => some | 1,
+            9 => some | (ALL + 1),
+            _ => 0,
+        }
+    }
+}
+
+/// Those of the wanted indices that may be lowered together in a tensor over `support`.
+pub fn free(support: u32, wanted: u32) -> u32 {
+    members(wanted & !1).fold(0, |m, k| {
+        let clash = support & !m & 1 << (k - 1) != 0;
+        if clash {
+            m
+        } else {
+            m | 1 << k
+        }
+    })
+}
+
+/// Neighbouring indices.
+fn run(rng: &mut Rng) -> u32 {
+    let k = rng.between(1, 23);
+    let last = (k + rng.below(6)).min(23);
+    (k..=last).fold(0, |m, k| m | 1 << k)
 }

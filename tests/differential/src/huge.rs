@@ -12,8 +12,13 @@ pub fn make(rng: &mut Rng) -> Case {
     grow(&mut draft, 0);
     draft.tally.peak = 0;
     grow(&mut draft, 3);
+    // Refused for want of places, and accepted once a collection has made some.
+    draft.say("lows 4 0 16777214");
     for _ in 0..draft.rng.between(3, 12) {
         call(&mut draft, 0, 2);
+    }
+    for line in ["collect", "lows 4 0 16777214"] {
+        draft.say(line);
     }
     let text = draft.text;
     let spare = rng.below(64);

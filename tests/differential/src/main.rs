@@ -8,6 +8,7 @@ mod decode;
 mod draft;
 mod engine;
 mod huge;
+mod lowerings;
 mod memory;
 mod repeats;
 mod rng;

@@ -31,13 +31,17 @@ pub fn repeats(draft: &mut Draft) {
 /// An operation on registers 0 and 1, its answer in 2 or 3.
 fn operation(draft: &mut Draft) -> String {
     let d = draft.rng.between(2, 3);
-    match draft.rng.weighted(&[60, 25, 15]) {
+    match draft.rng.weighted(&[55, 20, 10, 15]) {
         0 => {
             let m = *draft.rng.pick(&[0, 2, 4, 6, 16, 18, 36, 54, 16_777_215]);
             format!("cont {d} 0 1 {m}")
         }
         1 => format!("add {d} 0 1"),
-        _ => format!("low {d} 0 {}", draft.rng.pick(&[1, 3, 4, 6])),
+        2 => format!("low {d} 0 {}", draft.rng.pick(&[1, 3, 4, 6])),
+        _ => {
+            let m = *draft.rng.pick(&[2, 4, 6, 18, 48, 54, 62, 438, 16_777_214]);
+            format!("lows {d} 0 {m}")
+        }
     }
 }
 
@@ -69,7 +73,7 @@ fn release(draft: &mut Draft) {
 
 /// A call that does not fit, other tensors in the places that it had taken, then a call that is a
 /// part of it. Register 0 is a product of gates on two qubits, and 3 the gate on the second: what 0
-/// and 1 give holds what 3 and 1 give. The capacity is less than the first call needs.
+/// gives, with 1 or lowered, holds what 3 gives. The capacity is less than the first call needs.
 pub fn refused(rng: &mut Rng) -> (Vec<u8>, usize) {
     let mut draft = Draft::new(rng, usize::MAX);
     draft.last = 4;
@@ -78,11 +82,7 @@ pub fn refused(rng: &mut Rng) -> (Vec<u8>, usize) {
         draft.say(&format!("gate {d} {name} {}", usize::from(d != 0)));
     }
     draft.say("cont 0 0 3 0");
-    let m = *draft.rng.pick(&[0, 16, 32, 48]);
-    let calls = match draft.rng.percent(60) {
-        true => [0, 3].map(|a| format!("cont 2 {a} 1 {m}")),
-        false => [0, 3].map(|a| format!("add 2 {a} 1")),
-    };
+    let calls = whole_and_part(&mut draft);
     let before = draft.tally.set.count();
     draft.say(&calls[0]);
     let after = draft.tally.set.count().max(before + 1);
@@ -100,4 +100,19 @@ pub fn refused(rng: &mut Rng) -> (Vec<u8>, usize) {
     let text = draft.text;
     let least = before.max(after.saturating_sub(4));
     (text, rng.between(least, after - 1))
+}
+
+/// A call on register 0, and the same on 3.
+fn whole_and_part(draft: &mut Draft) -> [String; 2] {
+    match draft.rng.weighted(&[50, 30, 20]) {
+        0 => {
+            let m = *draft.rng.pick(&[0, 16, 32, 48]);
+            [0, 3].map(|a| format!("cont 2 {a} 1 {m}"))
+        }
+        1 => [0, 3].map(|a| format!("add 2 {a} 1")),
+        _ => {
+            let m = *draft.rng.pick(&[16, 48, 54]);
+            [0, 3].map(|a| format!("lows 2 {a} {m}"))
+        }
+    }
 }

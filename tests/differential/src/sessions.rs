@@ -1,9 +1,11 @@
 //! Session texts: calls of every kind, lists of gates, garbage. Those that are after a fault of
-//! remembering are in `repeats`, the largest in `huge`.
+//! remembering are in `repeats`, those that lower indices in both ways in `lowerings`, the largest
+//! in `huge`.
 
 use crate::case::{cache_words, capacity, store_bytes, Case, Kind, Sizes};
 use crate::circuit::{random_gate, random_list, relation, second};
 use crate::draft::Draft;
+use crate::lowerings::{lowerings, tight};
 use crate::repeats::{refused, repeats};
 use crate::rng::Rng;
 use crate::spoil::noise;
@@ -16,12 +18,14 @@ enum Style {
     Repeats,
     Garbage,
     Refused,
+    Lowerings,
+    Tight,
 }
 
 pub fn make(rng: &mut Rng) -> Case {
-    use Style::{Calls, Circuits, Garbage, Refused, Repeats};
-    let styles = [Calls, Circuits, Repeats, Garbage, Refused];
-    let style = styles[rng.weighted(&[32, 20, 32, 6, 10])];
+    use Style::{Calls, Circuits, Garbage, Lowerings, Refused, Repeats, Tight};
+    let styles = [Calls, Circuits, Repeats, Garbage, Refused, Lowerings, Tight];
+    let style = styles[rng.weighted(&[30, 18, 32, 6, 14, 14, 6])];
     let (text, capacity) = text(rng, style);
     let earlier = rng.percent(25).then(|| self::text(rng, style).0);
     let lines = text.iter().filter(|&&b| b == b'\n').count();
@@ -64,7 +68,9 @@ fn text(rng: &mut Rng, style: Style) -> (Vec<u8>, usize) {
         Style::Circuits => circuits(&mut draft),
         Style::Repeats => repeats(&mut draft),
         Style::Garbage => garbage(&mut draft),
+        Style::Lowerings => lowerings(&mut draft),
         Style::Refused => return refused(rng),
+        Style::Tight => return tight(rng),
     }
     let mut text = draft.text;
     if rng.percent(20) {
@@ -86,7 +92,7 @@ fn calls(draft: &mut Draft) {
 /// One random call. Qubits are `base` and those after it, as far as there are any.
 pub fn call(draft: &mut Draft, base: u32, n: u32) {
     let (d, a, b) = (draft.any(), draft.filled(), draft.filled());
-    match draft.rng.weighted(&[22, 4, 6, 14, 20, 12, 7, 7, 6, 10, 6]) {
+    match draft.rng.weighted(&[22, 4, 6, 14, 20, 20, 7, 7, 6, 10, 6]) {
         0 => {
             let gate = random_gate(draft.rng, n, false);
             let gate = placed(draft.rng, gate, base);
@@ -105,10 +111,7 @@ pub fn call(draft: &mut Draft, base: u32, n: u32) {
             let m = draft.mask(a, b);
             draft.say(&format!("cont {d} {a} {b} {m}"));
         }
-        5 => {
-            let k = draft.lowered(a);
-            draft.say(&format!("low {d} {a} {k}"));
-        }
+        5 => lower(draft, d, a),
         6 => draft.say(&format!("drop {a}")),
         7 => draft.say("collect"),
         8 => {
@@ -117,6 +120,17 @@ pub fn call(draft: &mut Draft, base: u32, n: u32) {
         }
         9 => draft.say(&format!("cmp {a} {b}")),
         _ => draft.say(&format!("on {a}")),
+    }
+}
+
+/// One index or a set of indices lowered.
+pub fn lower(draft: &mut Draft, d: usize, a: usize) {
+    if draft.rng.percent(50) {
+        let k = draft.lowered(a);
+        draft.say(&format!("low {d} {a} {k}"));
+    } else {
+        let m = draft.lowered_set(a);
+        draft.say(&format!("lows {d} {a} {m}"));
     }
 }
 

@@ -57,7 +57,7 @@ const FIELDS: [&[u8]; 52] = [
     b"/:",
 ];
 
-const WORDS: [&[u8]; 18] = [
+const WORDS: [&[u8]; 19] = [
     b"put",
     b"gate",
     b"unit",
@@ -70,6 +70,7 @@ const WORDS: [&[u8]; 18] = [
     b"cmp",
     b"on",
     b"lows",
+    b"lowss",
     b"root",
     b"turn",
     b"PUT",

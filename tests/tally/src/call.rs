@@ -1,4 +1,4 @@
-//! The eleven calls, and what a line is answered.
+//! The twelve calls, and what a line is answered.
 
 use crate::field::Weight;
 use crate::gate::Gate;
@@ -47,6 +47,11 @@ pub enum Call {
     },
     On {
         a: usize,
+    },
+    Lows {
+        d: usize,
+        a: usize,
+        m: u32,
     },
 }
 

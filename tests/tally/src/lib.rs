@@ -1,5 +1,5 @@
-//! Document 01's tally, with document 02's call `on`: sessions and verdicts with tensors as plain
-//! tables, without nodes.
+//! Document 01's tally, with document 02's calls `on` and `lows`: sessions and verdicts with tensors
+//! as plain tables, without nodes.
 //!
 //! It is written from the documents alone, so that it can be held against the engine. Sentences in
 //! quotation marks are theirs.

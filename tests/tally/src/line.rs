@@ -13,15 +13,18 @@ use crate::text::{fields, number};
 enum Kind {
     Register,
     Number(u32, u32),
+    /// A set of indices to lower.
+    Lowered,
     GateName,
 }
 
-use Kind::{GateName, Number, Register};
+use Kind::{GateName, Lowered, Number, Register};
 
 const WEIGHT: Kind = Number(0, 65_536);
 const QUBIT: Kind = Number(0, 7);
 const QUBITS: Kind = Number(1, 8);
-const MASK: Kind = Number(0, 16_777_215);
+const LAST_MASK: u32 = 16_777_215;
+const MASK: Kind = Number(0, LAST_MASK);
 const INDEX: Kind = Number(1, 23);
 
 /// The fields after the word. "Fields here number 4 or 5" is of `gate`.
@@ -38,6 +41,7 @@ fn kinds(word: &[u8], count: usize) -> Option<Vec<Kind>> {
         b"collect" => &[],
         b"at" => &[Register, MASK],
         b"cmp" => &[Register, Register],
+        b"lows" => &[Register, Register, Lowered],
         _ => return None,
     };
     (kinds.len() + 1 == count).then(|| kinds.to_vec())
@@ -76,6 +80,8 @@ fn check(kind: Kind, value: u32, field: &[u8], count: usize) -> Result<(), Refus
     match kind {
         Register if value > 15 => Err(REGISTER),
         Number(least, most) if !(least..=most).contains(&value) => Err(RANGE),
+        // "Mask bit 0 set, or a mask above 16777215, is 4."
+        Lowered if value % 2 == 1 || value > LAST_MASK => Err(RANGE),
         // "5 (name not below, or wrong count of qubits for it)"
         GateName => match Name::read(field) {
             Some(name) if name.qubits() == count - 2 => Ok(()),
@@ -90,13 +96,12 @@ fn assemble(fields: &[&[u8]], n: &[u32]) -> Call {
     let r = |i: usize| n[i] as usize;
     match fields[0] {
         b"put" => Call::Put { d: r(0), w: n[1] },
-        b"gate" => Call::Gate {
-            d: r(0),
-            gate: Gate {
-                name: Name::read(fields[2]).expect("checked"),
-                qubits: n[2..].to_vec(),
-            },
-        },
+        b"gate" => {
+            let name = Name::read(fields[2]).expect("checked");
+            let qubits = n[2..].to_vec();
+            let gate = Gate { name, qubits };
+            Call::Gate { d: r(0), gate }
+        }
         b"unit" => Call::Unit { d: r(0), n: n[1] },
         b"add" => Call::Add {
             d: r(0),
@@ -118,6 +123,11 @@ fn assemble(fields: &[&[u8]], n: &[u32]) -> Call {
         b"collect" => Call::Collect,
         b"at" => Call::At { a: r(0), v: n[1] },
         b"cmp" => Call::Cmp { a: r(0), b: r(1) },
-        _ => Call::On { a: r(0) },
+        b"on" => Call::On { a: r(0) },
+        _ => Call::Lows {
+            d: r(0),
+            a: r(1),
+            m: n[2],
+        },
     }
 }

@@ -1,10 +1,10 @@
-//! The tally's rules: join, sum, cont, low, build and collect.
+//! The tally's rules: join, sum, cont, low, build, collect and lows.
 //!
 //! "Recursions do low (T0) before high (T1)."
 
 use crate::field::{power, times};
 use crate::set::Set;
-use crate::tensor::Tensor;
+use crate::tensor::{members, Tensor};
 use std::collections::HashSet;
 
 /// "join(k, L, H): the tensor that is L at k=0 and H at k=1. If L and H differ, the normal multiple
@@ -108,6 +108,18 @@ fn note(kept: &mut HashSet<Tensor>, t: &Tensor) {
         note(kept, &t0);
         note(kept, &t1);
     }
+}
+
+/// "An index k in m is free to go where a does not depend on k-1, or where k-1 is in m too."
+pub fn clash(a: &Tensor, m: u32) -> bool {
+    let free = |k: u32| !a.depends(k - 1) || m >> (k - 1) & 1 == 1;
+    !members(m).all(free)
+}
+
+/// "lowers every index of the set m at the same moment"; "The answer's nodes are put in as build
+/// puts them in."
+pub fn lows(set: &mut Set, a: &Tensor, m: u32) -> Tensor {
+    build(set, &a.lowered(m))
 }
 
 fn lower_top(a: &Tensor, b: &Tensor) -> Option<u32> {

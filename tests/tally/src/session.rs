@@ -14,6 +14,8 @@ pub struct Tally {
     pub capacity: usize,
     /// The largest set so far, that of a refused call included.
     pub peak: usize,
+    /// Of each accepted `lows` the members of its set on which the tensor depended, in order.
+    pub lowered: Vec<u32>,
 }
 
 impl Tally {
@@ -23,6 +25,7 @@ impl Tally {
             registers: Default::default(),
             capacity,
             peak: 0,
+            lowered: Vec::new(),
         }
     }
 
@@ -65,7 +68,19 @@ impl Tally {
             Call::Cmp { a, b } => Ok(compare(&self.filled(a)?, &self.filled(b)?)),
             // "answers `m` and the register's mask, 0 for a constant"
             Call::On { a } => Ok(Answer::Mask(self.filled(a)?.mask())),
+            Call::Lows { d, a, m } => self.lows(d, a, m),
         }
+    }
+
+    fn lows(&mut self, d: usize, a: usize, m: u32) -> Result<Answer, Refusal> {
+        let a = self.filled(a)?;
+        // "A clash is 7, in the place that `low` has it"
+        if rules::clash(&a, m) {
+            return Err(CLASH);
+        }
+        let answer = self.set(d, |set| rules::lows(set, &a, m))?;
+        self.lowered.push(a.mask() & m);
+        Ok(answer)
     }
 
     fn filled(&self, a: usize) -> Result<Tensor, Refusal> {

@@ -102,6 +102,14 @@ impl Tensor {
         }
     }
 
+    /// At each assignment v the value where each index k of m has what v gives k-1, and every other
+    /// index what v gives it. Bit 0 of m is not set.
+    pub fn lowered(&self, m: u32) -> Tensor {
+        let looked_at = |v: u32| v << 1 & m | v & !m;
+        let used = (self.support & m) >> 1 | self.support & !m;
+        Tensor::from_fn(used, |v| self.at(looked_at(v)))
+    }
+
     pub fn scaled(&self, w: Weight) -> Tensor {
         if w == 0 {
             return Tensor::constant(0);

@@ -8,6 +8,8 @@ use crate::tensor::{Tensor, INDICES};
 use crate::verdict::{verdict, Lists, Ruling};
 use crate::{capacity, matrix, rules, set::Set, text};
 
+mod lows;
+
 /// A session's answers, tabs written as spaces.
 fn answers(lines: &[&str], capacity: usize) -> Vec<String> {
     let text = lines.join("\n").replace(' ', "\t");

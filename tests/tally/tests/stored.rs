@@ -59,7 +59,7 @@ fn program_verdict() {
 fn program_script() {
     let input = stored("script", "stdin");
     let output: Vec<u8> = parts(&input).into_iter().flat_map(script).collect();
-    assert_eq!(parts(&input).len(), 71);
+    assert_eq!(parts(&input).len(), 95);
     assert_same(&output, &stored("script", "stdout"));
 }
 

@@ -45,6 +45,30 @@ pub enum Blunder {
     EmptyMasked,
     /// `low` tests k in place of k-1.
     ClashAtIndex,
+    /// `lows` goes from above, one after the other, so that k+1 follows k down again.
+    FallsTwice,
+    /// `lows` goes from below, one after the other, and keeps the nodes on the way.
+    KeepsSingles,
+    /// `lows` tests k+1 in place of k-1.
+    ClashAbove,
+    /// `lows` tests k-1 only where the tensor depends on k.
+    ClashWhereUsed,
+    /// `lows` tests k-1 also where it is in the set.
+    ClashInChain,
+    /// `lows` accepts index 0, and leaves it where it is.
+    LowersZero,
+    /// Remembering `lows` without its set.
+    ForgetsLowered,
+    /// Remembering `low` with its index as `lows` with the set of that number.
+    IndexAsSet,
+    /// `lows` accepts a number above 16777215, and leaves the bits above out.
+    LowersBeyond,
+    /// What is remembered of `lows` is used after a collection.
+    LoweredAfterCollection,
+    /// What is remembered of `lows` in a refused call is used.
+    LoweredAfterRefusal,
+    /// What is remembered of `lows` in an earlier session is used.
+    LoweredAfterSession,
 }
 
 #[derive(Clone, Copy, Debug, PartialEq, Eq, Hash)]
@@ -65,6 +89,7 @@ enum Key {
     Sum(Edge, Edge),
     Cont(usize, usize, u32),
     Low(usize, u32),
+    Lows(usize, u32),
 }
 
 pub const ZERO: Edge = Edge { weight: 0, node: 0 };
@@ -93,12 +118,15 @@ impl Diagram {
         self.nodes.clear();
         self.masks.clear();
         self.places.clear();
-        self.forget(Blunder::StaleAfterSession);
+        self.forget(Blunder::StaleAfterSession, Blunder::LoweredAfterSession);
     }
 
-    /// Forgets every remembered result, unless not to do so is the blunder.
-    fn forget(&mut self, unless: Blunder) {
-        if self.blunder != unless {
+    /// Forgets every remembered result, unless not to do so is the blunder, or not of `lows`.
+    fn forget(&mut self, unless: Blunder, not_of_lows: Blunder) {
+        if self.blunder == not_of_lows {
+            self.remembered
+                .retain(|key, _| matches!(key, Key::Lows(..)));
+        } else if self.blunder != unless {
             self.remembered.clear();
         }
     }
@@ -260,7 +288,11 @@ impl Diagram {
         if top > k {
             return e;
         }
-        if let Some(found) = self.recall(&Key::Low(e.node, k), top.min(k - 1)) {
+        let key = match self.blunder {
+            Blunder::IndexAsSet => Key::Lows(e.node, k),
+            _ => Key::Low(e.node, k),
+        };
+        if let Some(found) = self.recall(&key, top.min(k - 1)) {
             return scaled(found, e.weight);
         }
         let (e0, e1) = self.parts(Edge { weight: 1, ..e }, top);
@@ -270,8 +302,45 @@ impl Diagram {
             let (l, h) = self.both(|d| d.low(e0, k), |d| d.low(e1, k));
             self.join(top, l, h)
         };
-        self.remembered.insert(Key::Low(e.node, k), answer);
+        self.remembered.insert(key, answer);
         scaled(answer, e.weight)
+    }
+
+    /// Every index of m goes down together.
+    pub fn lows(&mut self, e: Edge, m: u32) -> Edge {
+        if e.node == 0 {
+            return e;
+        }
+        let top = self.top(e);
+        let place = self.place(top, m);
+        let kept = if self.blunder == Blunder::ForgetsLowered {
+            0
+        } else {
+            m
+        };
+        let key = Key::Lows(e.node, kept);
+        if let Some(found) = self.recall(&key, place) {
+            return scaled(found, e.weight);
+        }
+        let (mut e0, mut e1) = self.parts(Edge { weight: 1, ..e }, top);
+        // Two indices come to one place by a blunder alone: they have one value there.
+        for k in (top + 1..INDICES).take_while(|&k| self.place(k, m) == place) {
+            (e0, e1) = (self.parts(e0, k).0, self.parts(e1, k).1);
+        }
+        let (l, h) = self.both(|d| d.lows(e0, m), |d| d.lows(e1, m));
+        let answer = self.join(place, l, h);
+        self.remembered.insert(key, answer);
+        scaled(answer, e.weight)
+    }
+
+    /// Where index k goes when those of m go down.
+    fn place(&self, k: u32, m: u32) -> u32 {
+        // How many of k, k-1 and so on are in m.
+        let run = (m << (31 - k)).leading_ones();
+        match self.blunder {
+            Blunder::FallsTwice => k - run,
+            _ => k - run.min(1),
+        }
     }
 
     pub fn build(&mut self, t: &Tensor) -> Edge {
@@ -296,7 +365,7 @@ impl Diagram {
             self.masks.truncate(count);
         }
         self.places.retain(|_, n| *n <= count);
-        self.forget(Blunder::StaleAfterRefusal);
+        self.forget(Blunder::StaleAfterRefusal, Blunder::LoweredAfterRefusal);
     }
 
     /// Keeps what the registers reach, closes the gaps and preserves order.
@@ -316,7 +385,10 @@ impl Diagram {
         for e in registers.iter_mut().flatten() {
             e.node = moved[e.node];
         }
-        self.forget(Blunder::StaleAfterCollection);
+        self.forget(
+            Blunder::StaleAfterCollection,
+            Blunder::LoweredAfterCollection,
+        );
     }
 
     /// The place that each node has then.

@@ -1,16 +1,16 @@
-//! A plain engine over `Diagram`. It reads lines as the tally does: what is tested here is the
-//! comparison of what follows.
+//! A plain engine over `Diagram`. It reads lines as the tally does, but for two blunders: what is
+//! tested here is the comparison of what follows.
 
 use super::diagram::{scaled, Blunder, Diagram, Edge, Node, ZERO};
 use crate::engine::{self, Engine, Session, Verdict};
-use tally::call::{Answer, Call, Refusal, CLASH, EMPTY, FULL};
+use tally::call::{Answer, Call, Refusal, CLASH, EMPTY, FULL, RANGE};
 use tally::field::{inverse, times};
 use tally::gate::{self, fresh, middle, Gate};
-use tally::tensor::INDICES;
+use tally::tensor::{members, INDICES};
 use tally::verdict::{read, Fault, Ruling};
 use tally::{capacity, line, text};
 
-pub const BLUNDERS: [(Blunder, &str); 19] = [
+pub const BLUNDERS: [(Blunder, &str); 31] = [
     (
         Blunder::StaleAfterCollection,
         "a remembered result after a collection",
@@ -45,6 +45,36 @@ pub const BLUNDERS: [(Blunder, &str); 19] = [
     (Blunder::TopUnmasked, "on without the top"),
     (Blunder::EmptyMasked, "on answered for an empty register"),
     (Blunder::ClashAtIndex, "7 where a depends on k"),
+    (Blunder::FallsTwice, "a set lowered from above"),
+    (
+        Blunder::KeepsSingles,
+        "nodes of single lowerings kept by lows",
+    ),
+    (Blunder::ClashAbove, "7 of lows where a depends on k+1"),
+    (
+        Blunder::ClashWhereUsed,
+        "7 of lows only where a depends on k",
+    ),
+    (Blunder::ClashInChain, "7 of lows where k-1 is in the set"),
+    (Blunder::LowersZero, "index 0 accepted by lows"),
+    (Blunder::ForgetsLowered, "lows remembered without its set"),
+    (Blunder::IndexAsSet, "low remembered as lows"),
+    (
+        Blunder::LowersBeyond,
+        "a number above 16777215 accepted by lows",
+    ),
+    (
+        Blunder::LoweredAfterCollection,
+        "a remembered result of lows after a collection",
+    ),
+    (
+        Blunder::LoweredAfterRefusal,
+        "a remembered result of lows of a refused call",
+    ),
+    (
+        Blunder::LoweredAfterSession,
+        "a remembered result of lows of an earlier session",
+    ),
 ];
 
 pub struct Model {
@@ -75,6 +105,26 @@ impl Model {
         self.capacity = capacity(store_bytes).saturating_sub(early);
         self.registers = [None; 16];
         self.diagram.clear();
+    }
+
+    fn read(&self, line: &[u8]) -> Result<Call, Refusal> {
+        match line::read(line) {
+            Err(RANGE) if line.starts_with(b"lows\t") => line::read(&self.overlooked(line)),
+            read => read,
+        }
+    }
+
+    /// A line of `lows` without what a blunder overlooks in its set.
+    fn overlooked(&self, line: &[u8]) -> Vec<u8> {
+        let tab = line.iter().rposition(|&b| b == b'\t').expect("fields");
+        let (before, last) = line.split_at(tab + 1);
+        let m = text::number(last).expect("a number");
+        let kept = match self.diagram.blunder {
+            Blunder::LowersZero => m & !1,
+            Blunder::LowersBeyond => m & 0xFF_FFFF,
+            _ => m,
+        };
+        [before, kept.to_string().as_bytes()].concat()
     }
 
     fn call(&mut self, call: &Call) -> Result<Answer, Refusal> {
@@ -110,6 +160,7 @@ impl Model {
             Call::At { a, v } => Ok(Answer::Value(self.at(self.filled(a)?, v))),
             Call::Cmp { a, b } => Ok(compare(self.filled(a)?, self.filled(b)?)),
             Call::On { a } => self.on(a),
+            Call::Lows { d, a, m } => self.lows(d, a, m),
         }
     }
 
@@ -151,6 +202,27 @@ impl Model {
         let first = u32::from(self.has(Blunder::TopUnmasked));
         let above = (self.diagram.top(e) + first..INDICES).filter(|&k| self.depends(e, k));
         Ok(Answer::Mask(above.fold(0, |mask, k| mask | 1 << k)))
+    }
+
+    fn lows(&mut self, d: usize, a: usize, m: u32) -> Result<Answer, Refusal> {
+        let a = self.filled(a)?;
+        if members(m).any(|k| self.clash(a, k, m)) {
+            return Err(CLASH);
+        }
+        if self.has(Blunder::KeepsSingles) {
+            return self.set(d, |g| members(m).fold(a, |e, k| g.low(e, k)));
+        }
+        self.set(d, |g| g.lows(a, m))
+    }
+
+    fn clash(&self, a: Edge, k: u32, m: u32) -> bool {
+        let taken = match self.has(Blunder::ClashAbove) {
+            true => k + 1,
+            false => k - 1,
+        };
+        let stays = m >> taken & 1 == 0 || self.has(Blunder::ClashInChain);
+        let used = self.depends(a, k) || !self.has(Blunder::ClashWhereUsed);
+        self.depends(a, taken) && stays && used
     }
 
     fn at(&self, mut e: Edge, v: u32) -> u32 {
@@ -235,7 +307,7 @@ impl Engine for Model {
                 code = 9;
                 break;
             }
-            let called = line::read(line).and_then(|call| self.call(&call));
+            let called = self.read(line).and_then(|call| self.call(&call));
             let answer = called.unwrap_or_else(Answer::No).bytes();
             out[bytes..bytes + answer.len()].copy_from_slice(&answer);
             bytes += answer.len();

@@ -35,8 +35,11 @@ returns-10 : tie.Need-returns-10
 returns-10 c = rw (c .before .enum-told10 .given .1) (c .on .ensures)
 
 returns-11 : tie.Need-returns-11
+returns-11 c = rw (c .before .enum-told11 .given .1) (c .lows .ensures)
+
+returns-12 : tie.Need-returns-12
 unfolding callOf
-returns-11 c = rw (c .enum-told11 .given .1)
+returns-12 c = rw (c .enum-told12 .given .1)
 
 pub make-spec : {M : Type 1} → statement M
 make-spec =
@@ -46,5 +49,5 @@ make-spec =
     (λ c κs. search needs) (λ c. search needs) (λ c κs. search needs) (λ c. search needs) (λ c κs. search needs)
     (λ c. search needs) (λ c κs. search needs) (λ c. search needs) (λ c κs. search needs) (λ c. search needs)
     (λ c κs. search needs) (λ c. search needs) (λ c κs. search needs) (λ c. search needs) (λ c κs. search needs)
-    (λ c. search needs) returns returns-2 returns-3 returns-4 returns-5 returns-6 returns-7 returns-8 returns-9
-    returns-10 returns-11)
+    (λ c. search needs) (λ c κs. search needs) (λ c. search needs) returns returns-2 returns-3 returns-4 returns-5
+    returns-6 returns-7 returns-8 returns-9 returns-10 returns-11 returns-12)

@@ -1,17 +1,17 @@
 use borrow.Author.Needs.{needs}
 use Rattle.diagram.specs.InvariantLaws.{lower-allowed}
-use Rattle.text.specs.OperateLaws.{low-depends, low-ensures}
+use Rattle.text.specs.OperateLaws.{unless-refused, unless-sets}
 use Rattle.text.proofs.operate.low.Statement.{statement}
 use Rattle.text.proofs.operate.low.Tie as tie
 
 returns : tie.Need-returns
-returns c = search (needs, low-depends)
+returns c = search (needs, unless-refused)
 
 lower-requires : tie.Need-lower-requires
 lower-requires c κs = (search needs, (search needs, (search needs, search (needs, lower-allowed))))
 
 returns-2 : tie.Need-returns-2
-returns-2 c = search (needs, low-ensures)
+returns-2 c = search (needs, unless-sets)
 
 pub low-spec : {M : Type 1} → statement M
 low-spec =

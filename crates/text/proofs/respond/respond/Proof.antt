@@ -33,6 +33,9 @@ cmp-requires c κs = search (needs, ranged-as)
 on-requires : tie.Need-on-requires
 on-requires c κs = search (needs, ranged-as)
 
+lows-requires : tie.Need-lows-requires
+lows-requires c κs = search (needs, ranged-as)
+
 returns : tie.Need-returns
 returns c = search (needs, responds-as)
 
@@ -67,7 +70,10 @@ returns-11 : tie.Need-returns-11
 returns-11 c = search (needs, read-ensures-as)
 
 returns-12 : tie.Need-returns-12
-returns-12 c = search (needs, refused-line)
+returns-12 c = search (needs, responds-as)
+
+returns-13 : tie.Need-returns-13
+returns-13 c = search (needs, refused-line)
 
 pub respond-spec : {M : Type 1} → statement M
 respond-spec =
@@ -76,9 +82,10 @@ respond-spec =
     (λ c. search needs) put-requires (λ c. search needs) gate-requires (λ c. search needs) unit-requires
     (λ c. search needs) add-requires (λ c. search needs) cont-requires (λ c. search needs) low-requires
     (λ c. search needs) drop-requires (λ c. search needs) (λ c κs. search needs) (λ c. search needs) at-requires
-    (λ c. search needs) cmp-requires (λ c. search needs) on-requires (λ c. search needs) (λ c κs. search needs)
+    (λ c. search needs) cmp-requires (λ c. search needs) on-requires (λ c. search needs) lows-requires
+    (λ c. search needs) (λ c κs. search needs)
     (λ c. search needs) (λ c. search needs) returns (λ c. search needs) (λ c. search needs) returns-2
     (λ c. search needs) (λ c. search needs) returns-3 (λ c. search needs) (λ c. search needs) returns-4
     (λ c. search needs) (λ c. search needs) returns-5 (λ c. search needs) (λ c. search needs) returns-6 returns-7
     (λ c. search needs) (λ c. search needs) returns-8 (λ c. search needs) returns-9 returns-10 (λ c. search needs)
-    returns-11 returns-12)
+    returns-11 (λ c. search needs) (λ c. search needs) returns-12 returns-13)

@@ -1,4 +1,4 @@
--- The ten choices, from the outermost in.
+-- The eleven choices, from the outermost in.
 use borrow.Author.Needs.{needs}
 use Rattle.text.specs.Words.{wordOf}
 use Rattle.text.proofs.words.read.Statement.{statement}
@@ -7,7 +7,8 @@ use Rattle.text.proofs.words.read.Tie as tie
 returns : tie.Need-returns
 unfolding wordOf
 returns c =
-    let c9 = c .before .before in
+    let c10 = c .before .before in
+    let c9 = c10 .before .before in
     let c8 = c9 .before .before in
     let c7 = c8 .before .before in
     let c6 = c7 .before .before in
@@ -16,8 +17,9 @@ returns c =
     let c3 = c4 .before .before in
     let c2 = c3 .before .before in
     let c1 = c2 .before .before in
-    rw (c .choose10 .ensures, c9 .choose9 .ensures, c8 .choose8 .ensures, c7 .choose7 .ensures, c6 .choose6 .ensures)
-    (rw (c5 .choose5 .ensures, c4 .choose4 .ensures, c3 .choose3 .ensures, c2 .choose2 .ensures, c1 .choose .ensures))
+    rw (c .choose11 .ensures, c10 .choose10 .ensures, c9 .choose9 .ensures, c8 .choose8 .ensures)
+    (rw (c7 .choose7 .ensures, c6 .choose6 .ensures, c5 .choose5 .ensures, c4 .choose4 .ensures)
+    (rw (c3 .choose3 .ensures, c2 .choose2 .ensures, c1 .choose .ensures)))
 
 pub read-spec : {M : Type 1} → statement M
 read-spec =
@@ -27,4 +29,4 @@ read-spec =
     (λ c κs. search needs) (λ c. search needs) (λ c κs. search needs) (λ c. search needs) (λ c κs. search needs)
     (λ c. search needs) (λ c κs. search needs) (λ c. search needs) (λ c κs. search needs) (λ c. search needs)
     (λ c κs. search needs) (λ c. search needs) (λ c κs. search needs) (λ c. search needs) (λ c κs. search needs)
-    returns)
+    (λ c. search needs) (λ c κs. search needs) returns)
