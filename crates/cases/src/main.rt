@@ -2,6 +2,8 @@
 // in nodes, which is not part of the text.
 //
 // The stored output comes from an independent calculation on plain tables and on matrices.
+#![tactic(auto)]
+
 mod feed;
 mod run;
 
@@ -14,7 +16,7 @@ const STORE: usize = 32768;
 const CACHE: usize = 16384;
 
 // Bytes came, or the input has ended.
-#[derive(Drop)]
+#[derive(Clone, Copy)]
 enum AfterRead {
     More(usize),
     End,

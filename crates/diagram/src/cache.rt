@@ -9,7 +9,7 @@ use crate::node::{Edge, NodeNumber};
 // Results are remembered for an epoch; it steps where they become stale.
 pub type Epoch = u64;
 
-#[derive(Drop)]
+#[derive(Clone, Copy)]
 pub enum Op {
     Sum,
     Contract,
@@ -18,7 +18,7 @@ pub enum Op {
 
 // Everything that a result depends on: the operation, its two nodes (lowering has one, twice), and for sum the ratio of
 // the weights, for contraction the set S, for lowering the set that goes down.
-#[derive(Drop)]
+#[derive(Clone, Copy)]
 pub struct Key {
     pub op: Op,
     pub left: NodeNumber,
@@ -26,7 +26,7 @@ pub struct Key {
     pub arg: u64,
 }
 
-#[derive(Drop)]
+#[derive(Clone, Copy)]
 pub enum LookupResult {
     Hit(Edge),
     Miss,

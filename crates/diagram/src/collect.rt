@@ -11,13 +11,13 @@ use crate::node::NodeCount;
 use crate::registers::Registers;
 use crate::{compact, mark, restore};
 
-#[derive(Drop)]
+#[derive(Clone, Copy)]
 struct SweepResult {
     count: NodeCount,
     registers: Registers,
 }
 
-#[derive(Drop)]
+#[derive(Clone, Copy)]
 pub struct CollectResult {
     pub state: State,
     pub registers: Registers,

@@ -7,7 +7,7 @@ ghost use Rattle.diagram.specs.Compare.{CompareEnsures};
 use crate::node::{Edge, Weight};
 
 // The first tensor is the second; or it is so many times the second, neither 0 nor 1 times; or neither.
-#[derive(Drop)]
+#[derive(Clone, Copy)]
 pub enum Comparison {
     Same,
     Factor(Weight),

@@ -24,7 +24,7 @@ fn factored(v: Weight, w: Weight, m: Mask, k: Index) -> Weight
     field::mul(p, u)
 }
 
-#[cycle(contract_contract_cached_contract_high_contract_split)]
+#[cycle(contract)]
 pub fn contract(store: &mut [u8], cache: &mut [u64], s: State, a: Edge, b: Edge, m: Mask) -> Outcome
     requires { OperationRequires cache.old store.old s a b × (m < masks) }
     ensures { RefinesCached cache.new store.old store.new s
@@ -63,7 +63,7 @@ pub fn contract(store: &mut [u8], cache: &mut [u64], s: State, a: Edge, b: Edge,
 }
 
 // The contraction of edges of weight 1, not both constant: remembered, or worked out and remembered.
-#[cycle(contract_contract_cached_contract_high_contract_split)]
+#[cycle(contract)]
 fn contract_cached(
     store: &mut [u8],
     cache: &mut [u64],
@@ -95,7 +95,7 @@ fn contract_cached(
 }
 
 // "L = cont(A0,B0,S')", and then the rest.
-#[cycle(contract_contract_cached_contract_high_contract_split)]
+#[cycle(contract)]
 fn contract_split(
     store: &mut [u8],
     cache: &mut [u64],
@@ -119,7 +119,7 @@ fn contract_split(
 }
 
 // "H = cont(A1,B1,S')", met with l, which is L.
-#[cycle(contract_contract_cached_contract_high_contract_split)]
+#[cycle(contract)]
 fn contract_high(
     store: &mut [u8],
     cache: &mut [u64],

@@ -12,7 +12,7 @@ pub type Qubit = usize;
 pub type QubitCount = usize;
 
 // A gate on its qubit, or on its two: for CX the control first.
-#[derive(Drop)]
+#[derive(Clone, Copy)]
 pub enum Gate {
     X(Qubit),
     Y(Qubit),
@@ -66,7 +66,7 @@ pub(crate) fn matrix(g: Gate) -> [[Weight; 2]; 2]
 }
 
 // A gate's qubit, or its two.
-#[derive(Drop)]
+#[derive(Clone, Copy)]
 pub enum Shape {
     One(Qubit),
     Two(Qubit, Qubit),

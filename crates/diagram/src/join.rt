@@ -11,7 +11,7 @@ use crate::node::{Edge, Index, Mask};
 use crate::{make, mask, node, normalise, support};
 
 // An edge to the result, and the state then; or the nodes would be more than the store holds.
-#[derive(Drop)]
+#[derive(Clone, Copy)]
 pub enum Outcome {
     Edge(Edge, State),
     Full,

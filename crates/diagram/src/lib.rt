@@ -1,4 +1,6 @@
 // A tensor decision diagram.
+#![tactic(auto)]
+
 pub mod build;
 mod cache;
 pub mod collect;

@@ -36,7 +36,7 @@ pub fn clash(store: &[u8], s: State, a: Edge, m: Mask) -> bool
 }
 
 // Every index k of m is renamed k - 1, all at the same moment.
-#[cycle(lows_lows_cached_lows_high_lows_split)]
+#[cycle(lows)]
 pub fn lows(store: &mut [u8], cache: &mut [u64], s: State, a: Edge, m: Mask) -> Outcome
     requires { OperationRequires cache.old store.old s a a × LowsRequires store.old s a m }
     ensures { RefinesCached cache.new store.old store.new s
@@ -55,7 +55,7 @@ pub fn lows(store: &mut [u8], cache: &mut [u64], s: State, a: Edge, m: Mask) -> 
 }
 
 // The same for an edge of weight 1 to a node: remembered, or worked out and remembered.
-#[cycle(lows_lows_cached_lows_high_lows_split)]
+#[cycle(lows)]
 fn lows_cached(store: &mut [u8], cache: &mut [u64], s: State, a: Edge, m: Mask) -> Outcome
     requires { OperationRequires cache.old store.old s a a × LowsReduced store.old s a m }
     ensures { RefinesCached cache.new store.old store.new s
@@ -79,7 +79,7 @@ fn lows_cached(store: &mut [u8], cache: &mut [u64], s: State, a: Edge, m: Mask) 
 }
 
 // The low part, and then the rest.
-#[cycle(lows_lows_cached_lows_high_lows_split)]
+#[cycle(lows)]
 fn lows_split(store: &mut [u8], cache: &mut [u64], s: State, a: Edge, m: Mask) -> Outcome
     requires { OperationRequires cache.old store.old s a a × LowsReduced store.old s a m }
     ensures { RefinesCached cache.new store.old store.new s
@@ -94,7 +94,7 @@ fn lows_split(store: &mut [u8], cache: &mut [u64], s: State, a: Edge, m: Mask) -
 }
 
 // The high part, joined to l, the low part, where the top k goes.
-#[cycle(lows_lows_cached_lows_high_lows_split)]
+#[cycle(lows)]
 fn lows_high(
     store: &mut [u8],
     cache: &mut [u64],

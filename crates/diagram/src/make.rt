@@ -10,7 +10,7 @@ use crate::{insert, node, table};
 pub type BucketCount = usize;
 
 // What goes with the store: its nodes and buckets, and the epoch of the results that are remembered.
-#[derive(Drop)]
+#[derive(Clone, Copy)]
 pub struct State {
     pub count: NodeCount,
     pub epoch: Epoch,
@@ -18,7 +18,7 @@ pub struct State {
 }
 
 // The node's number, and the state then; or there is no room for it.
-#[derive(Drop)]
+#[derive(Clone, Copy)]
 pub enum Slot {
     At(NodeNumber, State),
     Full,

@@ -24,13 +24,13 @@ pub type Assignment = u64;
 pub(crate) const INDICES: Index = 24;
 
 // A weight times a node's tensor.
-#[derive(Drop)]
+#[derive(Clone, Copy)]
 pub struct Edge {
     pub weight: Weight,
     pub node: NodeNumber,
 }
 
-#[derive(Drop)]
+#[derive(Clone, Copy)]
 pub struct Node {
     pub index: Index,
     pub low: Edge,

@@ -4,7 +4,7 @@ ghost use Rattle.diagram.specs.Normalise.{NormaliseRequires, NormaliseEnsures};
 use crate::node::{Edge, Index, Mask, Node, Weight};
 
 // A weight, times a node whose first weight that is not 0 is 1.
-#[derive(Drop)]
+#[derive(Clone, Copy)]
 pub(crate) struct WeightedNode {
     pub(crate) weight: Weight,
     pub(crate) node: Node,

@@ -8,13 +8,13 @@ use crate::node::Edge;
 pub type RegisterNumber = usize;
 
 // `filled` is 1 or 0. It is a word, since registers are copied often, and a byte among words is slow to copy.
-#[derive(Drop)]
+#[derive(Clone, Copy)]
 pub struct Register {
     pub filled: u64,
     pub edge: Edge,
 }
 
-#[derive(Drop)]
+#[derive(Clone, Copy)]
 pub struct Registers {
     pub all: [Register; 16],
 }
@@ -29,7 +29,7 @@ pub fn empty() -> Registers
 }
 
 // What a register holds.
-#[derive(Drop)]
+#[derive(Clone, Copy)]
 pub enum RegisterContent {
     Edge(Edge),
     Empty,

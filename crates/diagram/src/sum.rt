@@ -10,7 +10,7 @@ use crate::make::State;
 use crate::node::{Edge, Index};
 use crate::{cache, edge, join, operation};
 
-#[cycle(sum_sum_cached_sum_high_sum_split)]
+#[cycle(sum)]
 pub fn sum(store: &mut [u8], cache: &mut [u64], s: State, a: Edge, b: Edge) -> Outcome
     requires { OperationRequires cache.old store.old s a b }
     ensures { RefinesCached cache.new store.old store.new s
@@ -40,7 +40,7 @@ pub fn sum(store: &mut [u8], cache: &mut [u64], s: State, a: Edge, b: Edge) -> O
 }
 
 // The sum of edges to different nodes, the first of weight 1: remembered, or worked out and remembered.
-#[cycle(sum_sum_cached_sum_high_sum_split)]
+#[cycle(sum)]
 fn sum_cached(store: &mut [u8], cache: &mut [u64], s: State, a: Edge, b: Edge) -> Outcome
     requires { OperationRequires cache.old store.old s a b × SumReduced a b }
     ensures { RefinesCached cache.new store.old store.new s
@@ -66,7 +66,7 @@ fn sum_cached(store: &mut [u8], cache: &mut [u64], s: State, a: Edge, b: Edge) -
 }
 
 // "join(k, sum(A0,B0), sum(A1,B1))": the low parts, and then the rest.
-#[cycle(sum_sum_cached_sum_high_sum_split)]
+#[cycle(sum)]
 fn sum_split(store: &mut [u8], cache: &mut [u64], s: State, a: Edge, b: Edge) -> Outcome
     requires { OperationRequires cache.old store.old s a b × SumReduced a b }
     ensures { RefinesCached cache.new store.old store.new s
@@ -82,7 +82,7 @@ fn sum_split(store: &mut [u8], cache: &mut [u64], s: State, a: Edge, b: Edge) ->
 }
 
 // The high parts, joined to l, the sum of the low parts.
-#[cycle(sum_sum_cached_sum_high_sum_split)]
+#[cycle(sum)]
 fn sum_high(
     store: &mut [u8],
     cache: &mut [u64],

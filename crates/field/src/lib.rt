@@ -1,4 +1,6 @@
 // Arithmetic on weights: whole numbers modulo the prime 65537 (document 01, "The field").
+#![tactic(auto)]
+
 ghost use Rattle.std.specs.Prelude.{◌≡◌, ◌%◌, ◌≤◌, ◌<◌};
 ghost use Rattle.field.specs.Weight.{modulus, to_weight, plus_w, times_w, inverse_w};
 ghost use Rattle.field.specs.Field.{Represents, DescentStep};
@@ -38,7 +40,7 @@ pub fn mul(a: Weight, b: Weight) -> Weight
 }
 
 // On the way to an inverse: what is looked for is `factor` times the inverse of `rest`.
-#[derive(Drop)]
+#[derive(Clone, Copy)]
 struct Descent {
     factor: Weight,
     rest: Weight,

@@ -1,5 +1,7 @@
 // Fills a store with nodes by a pattern of joins, makes the same joins again, which find every node, and prints the
 // number of nodes after each pass.
+#![tactic(auto)]
+
 ghost use Rattle.std.specs.Prelude.{◌+◌, ◌<◌};
 ghost use Rattle.diagram.specs.Weights.{modulus};
 ghost use Rattle.diagram.specs.Store.{Sound};

@@ -1,4 +1,6 @@
 // Writes what each line of standard input is read as: the call, or `no` and its number.
+#![tactic(auto)]
+
 mod feed;
 mod show;
 
@@ -12,7 +14,7 @@ use text::squeeze;
 use text::squeeze::Squeeze;
 
 // The line that a read ends in, and whether the read brought bytes.
-#[derive(Drop)]
+#[derive(Clone, Copy)]
 struct AfterRead {
     squeeze: Squeeze,
     more: bool,

@@ -15,7 +15,7 @@ use diagram::node::{Edge, Index, Mask};
 use diagram::registers::{RegisterContent, RegisterNumber, Registers};
 use diagram::{build, collect, contract, lower, registers, restore, support, unit};
 
-#[derive(Drop)]
+#[derive(Clone, Copy)]
 pub struct Run {
     pub state: State,
     pub registers: Registers,

@@ -11,6 +11,8 @@
 // Then an 8-qubit circuit: the counts after the unit and after each gate, and values at six assignments. They agree
 // with an independent calculation: the product of the 256 by 256 matrices over the field, and the number of different
 // normal tensors among its cofactors, index by index.
+#![tactic(auto)]
+
 mod calls;
 mod circuit;
 mod show;

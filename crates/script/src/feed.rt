@@ -3,7 +3,7 @@ use crate::run;
 
 // How many bytes of a session have come: one more than the buffer's length where they are too many. Every other session
 // is lent a cache of no words.
-#[derive(Drop)]
+#[derive(Clone, Copy)]
 pub struct Place {
     pub length: usize,
     pub cached: bool,

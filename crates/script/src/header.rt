@@ -3,7 +3,7 @@ use text::number::Number;
 use text::{number, split};
 
 // The capacity in nodes and the length of the output in bytes.
-#[derive(Drop)]
+#[derive(Clone, Copy)]
 pub enum Header {
     Bad,
     Of(usize, usize),

@@ -5,6 +5,8 @@
 // Of each session it writes the bytes that the session printed, and a line: `=`, the code, lines answered, bytes
 // written and the node count, with tabs between them. The stored output comes from an independent calculation on plain
 // tables of values.
+#![tactic(auto)]
+
 mod feed;
 mod header;
 mod run;
@@ -19,7 +21,7 @@ const STORE: usize = 32768;
 const CACHE: usize = 4096;
 
 // Bytes came, or the input has ended.
-#[derive(Drop)]
+#[derive(Clone, Copy)]
 enum AfterRead {
     More(Place),
     End,

@@ -11,7 +11,7 @@ use text::progress::Progress;
 use text::squeeze::Squeeze;
 
 // The engine after a line, and whether every answer so far was written.
-#[derive(Drop)]
+#[derive(Clone, Copy)]
 pub struct LineResult {
     pub engine: Engine,
     pub written: bool,

@@ -11,7 +11,7 @@ use text::squeeze;
 use text::squeeze::Squeeze;
 
 // The line that has come so far, the engine after the lines before it, and whether all their answers were written.
-#[derive(Drop)]
+#[derive(Clone, Copy)]
 pub struct SessionState {
     pub squeeze: Squeeze,
     pub engine: Engine,

@@ -10,7 +10,7 @@ use crate::feed::SessionState;
 use stdin::{Next, ReadResult};
 
 // What a read leaves, and what it says of what comes next.
-#[derive(Drop)]
+#[derive(Clone, Copy)]
 pub struct AfterRead {
     pub state: SessionState,
     pub next: Next,

@@ -3,6 +3,8 @@
 //
 // It stops at the first failed read and at the first failed write, and a line on standard error says so. (A program
 // has no exit status of its own.)
+#![tactic(auto)]
+
 mod answer;
 mod feed;
 mod input;

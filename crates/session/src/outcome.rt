@@ -12,14 +12,14 @@ use text::engine::Engine;
 
 // Every line was run and its answer written; reading failed, and the line that it cut was not run; or writing failed,
 // and no line after that was run.
-#[derive(Drop)]
+#[derive(Clone, Copy)]
 pub enum Ending {
     Complete,
     ReadFailed,
     WriteFailed,
 }
 
-#[derive(Drop)]
+#[derive(Clone, Copy)]
 pub struct Outcome {
     pub engine: Engine,
     pub ending: Ending,

@@ -1,4 +1,6 @@
 // Standard input, one read at a time, for the programs.
+#![tactic(auto)]
+
 ghost use Rattle.std.specs.Prelude.{◌≡◌, length};
 ghost use Rattle.io.specs.Counts.{IsPrefixLen};
 ghost use Rattle.stdin.specs.Stdin.{next_of, is_more, result_of, PossibleRead};
@@ -6,7 +8,7 @@ ghost use Rattle.stdin.specs.Stdin.{next_of, is_more, result_of, PossibleRead};
 use libc::STDIN_FILENO;
 
 // Bytes came, and more may; the input has ended; or reading failed, and nobody knows what is missing.
-#[derive(Drop)]
+#[derive(Clone, Copy)]
 pub enum Next {
     More,
     End,
@@ -14,7 +16,7 @@ pub enum Next {
 }
 
 // How many bytes came, which stand at the front of the buffer, and what comes next.
-#[derive(Drop)]
+#[derive(Clone, Copy)]
 pub struct ReadResult {
     pub count: usize,
     pub next: Next,

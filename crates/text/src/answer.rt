@@ -10,7 +10,7 @@ use crate::limits::{Mask, Weight};
 use crate::print;
 use diagram::node::NodeCount;
 
-#[derive(Drop)]
+#[derive(Clone, Copy)]
 pub enum Answer {
     Ok(NodeCount),
     No(Refusal),

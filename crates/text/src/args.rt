@@ -8,7 +8,7 @@ use crate::number::Number;
 use crate::{number, split};
 
 // At most four numbers; Wrong where one is malformed or there are more, so that 1 comes before every other refusal.
-#[derive(Drop)]
+#[derive(Clone, Copy)]
 pub enum Args {
     Wrong,
     None,

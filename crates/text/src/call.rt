@@ -11,7 +11,7 @@ use diagram::gate::{Gate, QubitCount};
 use diagram::node::Index;
 use diagram::registers::RegisterNumber;
 
-#[derive(Drop)]
+#[derive(Clone, Copy)]
 pub enum Refusal {
     Malformed,
     Register,
@@ -24,7 +24,7 @@ pub enum Refusal {
 }
 
 // A call with its registers, weights, masks, indices and assignments, in the documents' order; or a refusal.
-#[derive(Drop)]
+#[derive(Clone, Copy)]
 pub enum Call {
     Put(RegisterNumber, Weight),
     Gate(RegisterNumber, Gate),

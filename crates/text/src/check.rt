@@ -11,7 +11,7 @@ use crate::names::NameResult;
 use crate::{args, names, split};
 use diagram::gate::{Gate, Qubit, QubitCount};
 
-#[derive(Drop)]
+#[derive(Clone, Copy)]
 pub enum Fault {
     Header,
     Line,
@@ -22,14 +22,14 @@ pub enum Fault {
 }
 
 // The first line: its n, if it is good.
-#[derive(Drop)]
+#[derive(Clone, Copy)]
 pub enum Header {
     Of(QubitCount),
     Bad,
 }
 
 // A line after the first: a gate, the `=` that parts the lists, or a fault.
-#[derive(Drop)]
+#[derive(Clone, Copy)]
 pub enum Item {
     Gate(Gate),
     Parting,
@@ -37,14 +37,14 @@ pub enum Item {
 }
 
 // After a line: the line of `=` so far, or 0; or the line's fault.
-#[derive(Drop)]
+#[derive(Clone, Copy)]
 pub enum Next {
     On(LineNumber),
     Stop(Fault),
 }
 
 // A text without a fault: its n, the line of `=` and the number of lines. Or its first fault and the line of that.
-#[derive(Drop)]
+#[derive(Clone, Copy)]
 pub enum CheckResult {
     Good(QubitCount, LineNumber, LineNumber),
     Faulty(Fault, LineNumber),

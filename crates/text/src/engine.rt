@@ -13,14 +13,14 @@ use diagram::registers::{RegisterNumber, Registers};
 use diagram::{registers, restore};
 
 // The nodes are in the store; this is the rest.
-#[derive(Drop)]
+#[derive(Clone, Copy)]
 pub struct Engine {
     pub state: State,
     pub registers: Registers,
 }
 
 // A call's answer, and what it leaves.
-#[derive(Drop)]
+#[derive(Clone, Copy)]
 pub struct Reply {
     pub answer: Answer,
     pub engine: Engine,

@@ -1,4 +1,6 @@
 // Texts: lines read into calls, answers printed, verdict texts.
+#![tactic(auto)]
+
 pub mod answer;
 mod apply;
 mod args;

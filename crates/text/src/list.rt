@@ -15,7 +15,7 @@ use diagram::registers::RegisterNumber;
 
 // The state of a verdict's session: `line` lines of the text were run, the last of them refused or not; the next line
 // begins at `place`.
-#[derive(Drop)]
+#[derive(Clone, Copy)]
 pub struct ListState {
     pub refused: bool,
     pub line: LineNumber,

@@ -5,7 +5,7 @@ ghost use Rattle.text.specs.Names.{choose_name, one_qubit, two_qubits};
 use crate::split;
 use diagram::gate::{Gate, Qubit};
 
-#[derive(Drop)]
+#[derive(Clone, Copy)]
 pub enum NameResult {
     Gate(Gate),
     Unknown,

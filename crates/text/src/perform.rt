@@ -17,7 +17,7 @@ use diagram::registers::{RegisterContent, RegisterNumber};
 use diagram::{collect, registers};
 
 // Whether a call was refused, and what the calls before it leave.
-#[derive(Drop)]
+#[derive(Clone, Copy)]
 pub struct PerformState {
     pub refused: bool,
     pub engine: Engine,

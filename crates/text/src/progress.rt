@@ -12,7 +12,7 @@ use diagram::node::NodeCount;
 use diagram::registers::Registers;
 
 // "The result gives the code (0 or 9), lines answered, bytes written, the node count and the sixteen registers."
-#[derive(Drop)]
+#[derive(Clone, Copy)]
 pub struct SessionResult {
     pub code: usize,
     pub lines: usize,
@@ -22,7 +22,7 @@ pub struct SessionResult {
 }
 
 // The state of a run; the text is read up to `place`.
-#[derive(Drop)]
+#[derive(Clone, Copy)]
 pub struct Progress {
     pub code: usize,
     pub lines: usize,

@@ -9,7 +9,7 @@ use crate::limits::Mask;
 use diagram::gate;
 use diagram::gate::{Gate, Qubit, Shape};
 
-#[derive(Drop)]
+#[derive(Clone, Copy)]
 pub enum Qubits {
     One(Qubit),
     Two(Qubit, Qubit),

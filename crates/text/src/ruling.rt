@@ -8,7 +8,7 @@ use crate::check::Fault;
 use crate::limits::{LineNumber, Weight};
 use crate::{answer, print};
 
-#[derive(Drop)]
+#[derive(Clone, Copy)]
 pub enum Ruling {
     Same,
     Factor(Weight),
@@ -17,7 +17,7 @@ pub enum Ruling {
 }
 
 // "The result is code and bytes written"
-#[derive(Drop)]
+#[derive(Clone, Copy)]
 pub struct VerdictResult {
     pub code: usize,
     pub bytes: usize,

@@ -5,7 +5,7 @@ ghost use Rattle.text.specs.Squeeze.{SqueezeFits, NoneEnsures, PushEnsures};
 
 // What is kept of a line: how many bytes, tabs, and bytes of the present field. A line may go on for ever, so these
 // stop at 59, 5 and 9.
-#[derive(Drop)]
+#[derive(Clone, Copy)]
 pub struct Squeeze {
     pub length: usize,
     pub tabs: usize,

@@ -5,7 +5,7 @@ ghost use Rattle.text.specs.Words.{word_of};
 
 use crate::split;
 
-#[derive(Drop)]
+#[derive(Clone, Copy)]
 pub enum Word {
     Put,
     Unit,

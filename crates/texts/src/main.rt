@@ -1,5 +1,7 @@
 // Writes what each verdict text of standard input says: `good`, its n, the line of `=` and the number of lines; or
 // `no`, a fault's number and its line. A byte 0 ends a text.
+#![tactic(auto)]
+
 use libc::{STDIN_FILENO, STDOUT_FILENO};
 use text::check::CheckResult;
 
@@ -63,7 +65,7 @@ fn feed(text: &mut [u8], len: usize, part: &[u8]) -> usize {
 }
 
 // Bytes came, or the input has ended.
-#[derive(Drop)]
+#[derive(Clone, Copy)]
 enum AfterRead {
     More(usize),
     End,

@@ -6,7 +6,7 @@ ghost use Rattle.verdict.specs.Input.{FeedEnsures, TakeEnsures, ReadEnsures, Rea
 use stdin::{Next, ReadResult};
 
 // How many bytes have come, and what the last read says of what comes next.
-#[derive(Drop)]
+#[derive(Clone, Copy)]
 pub struct AfterRead {
     pub len: usize,
     pub next: Next,

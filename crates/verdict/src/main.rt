@@ -2,6 +2,8 @@
 //
 // A text that is longer than the buffer, or whose reading failed, is not judged, and a line on standard error says
 // so, as it does of an answer that could not be written. (A program has no exit status of its own.)
+#![tactic(auto)]
+
 mod input;
 mod outcome;
 

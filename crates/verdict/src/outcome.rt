@@ -7,7 +7,7 @@ use text::judge;
 use text::ruling::VerdictResult;
 
 // The text was judged; it is longer than the buffer; or reading failed, and nobody knows what is missing.
-#[derive(Drop)]
+#[derive(Clone, Copy)]
 pub enum Outcome {
     Judged(VerdictResult),
     TooLong,

@@ -1,0 +1,18 @@
+use Rattle.diagram.specs.CompactLaws.{shift_by}
+use borrow.Author.Rules.{rules}
+use Rattle.diagram.proofs.compact.shift.Goals as goal
+
+pub forward-low-requires : goal.forward-low-requires
+forward-low-requires c = rw c.read-x.ensures.0 c.requires.1.1.1.low_within
+
+pub forward-high-requires : goal.forward-high-requires
+forward-high-requires c = rw c.read-x.ensures.0
+    c.requires.1.1.1.high_within
+
+pub returns : goal.returns
+returns c = shift_by _ _ _
+    c.read-x.ensures.0 c.read-x.ensures.1
+    c.forward-low.ensures.0 c.forward-low.ensures.1
+    c.forward-high.ensures.0
+    c.forward-high.ensures.1
+    c.write.ensures c.set.ensures

@@ -1,0 +1,8 @@
+use Rattle.diagram.specs.Fields.{field}
+use native.Mathlib.Omega.{arith}
+use borrow.Author.Rules.{rules}
+use Rattle.diagram.proofs.fields.get.Goals as goal
+
+pub returns : goal.returns
+unfolding field
+returns c = omega arith

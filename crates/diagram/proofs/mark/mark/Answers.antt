@@ -1,0 +1,8 @@
+use Rattle.diagram.specs.MarkLaws.{mark_ensures}
+use borrow.Author.Rules.{rules}
+use Rattle.diagram.proofs.mark.mark.Goals as goal
+
+pub returns : goal.returns
+returns c = rw c.set.ensures
+    (mark_ensures _ _ c.requires
+    c.if-c-eq0.false)

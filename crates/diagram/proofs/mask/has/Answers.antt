@@ -1,0 +1,7 @@
+use Rattle.diagram.specs.MaskLaws.{bits_at}
+use mathlib.Core.Path.{sym}
+use borrow.Author.Rules.{rules}
+use Rattle.diagram.proofs.mask.has.Goals as goal
+
+pub returns : goal.returns
+returns c = sym (bits_at _ _)
