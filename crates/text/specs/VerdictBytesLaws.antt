@@ -2,7 +2,7 @@
 -- and output.
 use Rattle.std.specs.Prelude.{◌≡◌, refl, List, ◌≢◌, ◌↔◌, ◌⊎◌, ℕ, ◌^◌, ◌<◌, ◌≤◌, length}
 use Rattle.std.proofs.Common.{sym, subst, ◌∙◌, ap, inl, inr, arith, lt-ltb}
-use Rattle.std.proofs.Math.Logic.{Iff·trans}
+use Rattle.std.proofs.Math.Logic.Iff as Iff
 use Rattle.std.proofs.Math.Option.{Option, some}
 use Rattle.diagram.specs.Tensor.{indices, Tensor}
 use Rattle.diagram.specs.Node.{capacity}
@@ -186,11 +186,11 @@ module _ {text s o o' : Bytes} {r : VerdictResult} (room : verdict_room ≤ leng
         code = given_code room g;
         within = verdict_within g;
         untouched = given_rest room g;
-        same = Iff·trans (bytes_same c text w) (same_ruling Of E T c text known);
-        factor = Iff·trans (some_factor (bytes_factor c text w)) (factor_ruled Of E T c text known);
-        differ = Iff·trans (bytes_differ c text w) (differ_ruled Of E T c text known);
-        factor_of = λ f. Iff·trans (bytes_factor c text w f) (factor_of_ruled Of E T c text known f);
-        no = λ h f line b. Iff·trans (bytes_no c text w h f line b) (refused_at_lem c text f line);
+        same = Iff.trans (bytes_same c text w) (same_ruling Of E T c text known);
+        factor = Iff.trans (some_factor (bytes_factor c text w)) (factor_ruled Of E T c text known);
+        differ = Iff.trans (bytes_differ c text w) (differ_ruled Of E T c text known);
+        factor_of = λ f. Iff.trans (bytes_factor c text w f) (factor_of_ruled Of E T c text known f);
+        no = λ h f line b. Iff.trans (bytes_no c text w h f line b) (refused_at_lem c text f line);
         no_line_lem = line_most c text;
         no_digits = bytes_digits c text w;
         one_of_four = bytes_four c text w;

@@ -1,7 +1,7 @@
 -- The sentences of VerdictMeaning hold of every good text.
 use Rattle.std.specs.Prelude.{◌≡◌, refl, ◌≢◌, ◌⊎◌, ◌↔◌, List, ℕ, ◌<◌, ◌*◌, ◌≤◌}
 use Rattle.std.proofs.Common.{ap, sym, ◌∙◌, subst, inl, inr, arith}
-use Rattle.std.proofs.Math.Logic.{Iff·trans, Iff·not, Iff·and}
+use Rattle.std.proofs.Math.Logic.Iff as Iff
 use Rattle.diagram.specs.Weights.{modulus, Weight, to_weight}
 use Rattle.diagram.specs.WeightsLaws.{weight_number, weight_zero}
 use Rattle.diagram.specs.Weights.{Nonzero}
@@ -146,16 +146,16 @@ meaning_carry : {r : Ruling} {E E' : Type 0} {M M' N N' : ℕ → Type 0} → E 
     → ((f : ℕ) → N f ↔ N' f)
     → Meaning r E M N → Meaning r E' M' N'
 meaning_carry {M = M} {M'} {N} {N'} e m n t =
-    let not_equal = Iff·not e in
+    let not_equal = Iff.not e in
     let one : ((f : ℕ) × (M f ⊎ N f)) ↔ ((f : ℕ) × (M' f ⊎ N' f)) =
     (either (λ f. (m f).0) (λ f. (n f).0), either (λ f. (m f).1) (λ f. (n f).1)) in
     record {
-      same = Iff·trans t.same e;
-      factor = Iff·trans t.factor (Iff·and not_equal one);
-      differ = Iff·trans t.differ (Iff·and not_equal (Iff·not one));
+      same = Iff.trans t.same e;
+      factor = Iff.trans t.factor (Iff.and not_equal one);
+      differ = Iff.trans t.differ (Iff.and not_equal (Iff.not one));
       no_other = t.no_other;
       factor_of = λ f.
-          Iff·trans (t.factor_of f) (
+          Iff.trans (t.factor_of f) (
             λ p. (not_equal.0 p.0, p.1, (m f).0 p.2),
             λ p. (not_equal.1 p.0, p.1, (m f).1 p.2),
           );

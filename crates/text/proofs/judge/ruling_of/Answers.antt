@@ -1,0 +1,6 @@
+use borrow.Author.Rules.{rules}
+use Rattle.text.specs.JudgeLaws.{ruling_as}
+use Rattle.text.proofs.judge.ruling_of.Goals as goal
+
+pub returns-in-Factor : goal.returns-in-Factor
+returns-in-Factor c = search (rules, ruling_as)

@@ -1,0 +1,13 @@
+use borrow.Author.Rules.{rules}
+use Rattle.diagram.specs.InvariantLaws.{read_valid}
+use Rattle.text.specs.RespondLaws.{empty_low, responds_low}
+use Rattle.text.proofs.respond.low.Goals as goal
+
+pub returns-in_default : goal.returns-in_default
+returns-in_default c = search (rules, empty_low)
+
+pub low-requires : goal.low-requires
+low-requires c = (search rules, (search rules, (search (rules, read_valid), (search rules, search rules))))
+
+pub returns : goal.returns
+returns c = search (rules, responds_low)

@@ -1,0 +1,5 @@
+use Rattle.text.specs.SqueezeLaws.{none_ensures}
+use Rattle.text.proofs.squeeze.none.Goals as goal
+
+pub returns : goal.returns
+returns c = none_ensures
