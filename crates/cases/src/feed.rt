@@ -1,20 +1,28 @@
 // The texts, from parts of the input that end anywhere.
 use crate::run;
+use std::io::Stdout;
 
 // A text of `len` bytes has come. One that is longer than the buffer is not judged.
-fn end(text: &[u8], store: &mut [u8], cache: &mut [u64], len: usize) {
+fn end(stdout: Stdout, text: &[u8], store: &mut [u8], cache: &mut [u64], len: usize) {
     let a = 0;
     if text.len() < len {
-        run::word(b"too long\n");
+        run::word(stdout, b"too long\n");
         return;
     }
-    run::run(&text[a..len], store, cache);
+    run::run(stdout, &text[a..len], store, cache);
 }
 
 // One byte more, and how many the text has now. The store and the cache go on from text to text as they are left.
-fn step(text: &mut [u8], store: &mut [u8], cache: &mut [u64], len: usize, b: u8) -> usize {
+fn step(
+    stdout: Stdout,
+    text: &mut [u8],
+    store: &mut [u8],
+    cache: &mut [u64],
+    len: usize,
+    b: u8,
+) -> usize {
     if b == 0 {
-        end(text, store, cache, len);
+        end(stdout, text, store, cache, len);
         return 0;
     }
     if len < text.len() {
@@ -26,6 +34,7 @@ fn step(text: &mut [u8], store: &mut [u8], cache: &mut [u64], len: usize, b: u8)
 
 // The bytes that come next.
 pub fn feed(
+    stdout: Stdout,
     text: &mut [u8],
     store: &mut [u8],
     cache: &mut [u64],
@@ -35,7 +44,7 @@ pub fn feed(
     let mut n = len;
     let mut i = 0;
     while i < part.len() {
-        n = step(text, store, cache, n, part[i]);
+        n = step(stdout, text, store, cache, n, part[i]);
         i += 1;
     }
     n

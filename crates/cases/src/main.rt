@@ -7,13 +7,16 @@
 mod feed;
 mod run;
 
-use libc::STDIN_FILENO;
+use std::io::{Read, Stdin, Stdout};
 
 // 2048 nodes of 16 bytes.
 const STORE: usize = 32768;
 
 // 4096 remembered results of four words.
 const CACHE: usize = 16384;
+
+// How many bytes are read at once.
+const PART: usize = 4096;
 
 // Bytes came, or the input has ended.
 #[derive(Clone, Copy)]
@@ -23,22 +26,30 @@ enum AfterRead {
 }
 
 // Reads once, and judges the texts that end in what came.
-fn read(text: &mut [u8], store: &mut [u8], cache: &mut [u64], len: usize) -> AfterRead {
-    let mut part = io::buffer();
-    let got = libc::read(STDIN_FILENO, &mut part);
-    if got <= 0 {
+fn read(
+    input: Stdin,
+    stdout: Stdout,
+    text: &mut [u8],
+    store: &mut [u8],
+    cache: &mut [u64],
+    len: usize,
+) -> AfterRead {
+    let mut part = [0u8; PART];
+    let mut input = input;
+    // A read that fails counts as the input's end.
+    let n = input.read(&mut part).unwrap_or(0);
+    if n == 0 {
         return AfterRead::End;
     }
-    let n = io::count(got, &part);
-    AfterRead::More(feed::feed(text, store, cache, len, &part[..n]))
+    AfterRead::More(feed::feed(stdout, text, store, cache, len, &part[..n]))
 }
 
 // A proved loop has to end, and nothing says that an input does. So it counts down from a number that no run uses up.
-fn serve(text: &mut [u8], store: &mut [u8], cache: &mut [u64]) {
+fn serve(input: Stdin, stdout: Stdout, text: &mut [u8], store: &mut [u8], cache: &mut [u64]) {
     let mut len = 0;
     let mut turns = u64::MAX;
     while 0 < turns {
-        match read(text, store, cache, len) {
+        match read(input, stdout, text, store, cache, len) {
             AfterRead::More(n) => len = n,
             AfterRead::End => return,
         }
@@ -47,13 +58,15 @@ fn serve(text: &mut [u8], store: &mut [u8], cache: &mut [u64]) {
 }
 
 // The arrays as slices; their lengths are known here, and nothing has to count their elements.
-fn lend(store: &mut [u8; STORE], cache: &mut [u64; CACHE]) {
+fn lend(input: Stdin, stdout: Stdout, store: &mut [u8; STORE], cache: &mut [u64; CACHE]) {
     let mut text = [0u8; 8192];
-    serve(&mut text, store, cache);
+    serve(input, stdout, &mut text, store, cache);
 }
 
-fn main() {
+fn main(rt: HostRuntime) {
+    let input = rt.stdin();
+    let stdout = rt.stdout();
     let mut store = [0u8; STORE];
     let mut cache = [0u64; CACHE];
-    lend(&mut store, &mut cache);
+    lend(input, stdout, &mut store, &mut cache);
 }

@@ -1,6 +1,6 @@
 -- Laws of recursion on a measure: it is its body with itself for the recursive call; induction on the measure.
 use Rattle.std.specs.Prelude.{◌≡◌}
-use Prim.Native.Nat.{ℕ, zero, suc, ◌-◌, ◌<◌}
+use Prim.Native.Nat.{ℕ, zero, suc, ◌<◌}
 use Rattle.std.proofs.Common.{arith}
 use Rattle.diagram.specs.Descend.{descend_f, descend}
 

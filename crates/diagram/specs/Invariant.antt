@@ -8,7 +8,6 @@ use Rattle.diagram.specs.Meaning.{edge_in}
 use Rattle.diagram.specs.Store.{Sound}
 use Rattle.diagram.specs.Cache.{Remembers}
 use Rattle.diagram.specs.Registers.{RegistersValid}
-use Rattle.diagram.specs.declared.node.Edge.{Edge}
 use Rattle.diagram.specs.declared.make.State.{State}
 use Rattle.diagram.specs.declared.registers.Register.{Register}
 use Rattle.diagram.specs.declared.registers.RegisterContent.{RegisterContent}

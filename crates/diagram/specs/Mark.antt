@@ -1,6 +1,6 @@
 -- Marking: no mark but those of the filled registers' nodes, then all that these lead to, in one pass downwards. The
 -- marks are field 5.
-use Rattle.std.specs.Prelude.{◌≡◌, ◌≢◌, List, [], ◌∷◌, ◌++◌, ℕ, ◌≤◌, ◌<◌, ◌-◌, ◌+◌, length, take}
+use Rattle.std.specs.Prelude.{◌≡◌, ◌≢◌, List, [], ◌∷◌, ◌++◌, ℕ, ◌≤◌, ◌<◌, ◌-◌, length, take}
 use Rattle.diagram.specs.Fields.{field}
 use Rattle.diagram.specs.Node.{node_at}
 use Rattle.diagram.specs.Compact.{MarksClosed}

@@ -1,5 +1,5 @@
 -- What nodes mean (document 01, "Nodes"): the tensor of a node and of an edge, and the tensors of a list of nodes.
-use Rattle.std.specs.Prelude.{◌≡◌, List, [], ◌∷◌, ◌++◌, ℕ, ◌+◌, ◌≤◌, ◌<◌, get_or}
+use Rattle.std.specs.Prelude.{◌≡◌, List, [], ◌∷◌, ◌++◌, ℕ, ◌≤◌, ◌<◌, get_or}
 use Rattle.field.specs.Weight.{modulus, to_weight, 1w}
 use Rattle.diagram.specs.Tensor.{Tensor, constant, scale, joined}
 use Rattle.diagram.specs.Tally.{Set}

@@ -1,5 +1,5 @@
 -- Laws of operations in two parts, at the lower of the tops: what sum, contraction and lowering share.
-use Rattle.std.specs.Prelude.{◌≡◌, ◌≢◌, Bool, true, false, cond, List, ℕ, suc, ◌-◌, ◌<◌, min, leb}
+use Rattle.std.specs.Prelude.{◌≡◌, ◌≢◌, Bool, true, false, cond, List, ℕ, suc, ◌<◌, min, leb}
 use Rattle.std.proofs.Math.Path.{refl, ap}
 use Rattle.std.proofs.Common.{ap₂, sym, subst, ◌∙◌, leb-true, leb-false}
 use Rattle.std.proofs.Math.Option.{none, some}

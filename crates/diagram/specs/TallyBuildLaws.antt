@@ -1,5 +1,5 @@
 -- Laws of the tally's build: one step, what it puts in, meaning, scaling.
-use Rattle.std.specs.Prelude.{◌≡◌, refl, Bool, true, false, ℕ, ◌-◌}
+use Rattle.std.specs.Prelude.{◌≡◌, refl, Bool, true, false, ℕ}
 use Rattle.std.proofs.Common.{ap, ap₂}
 use Rattle.std.proofs.Math.Option.{Option, none, some}
 use Rattle.field.specs.Weight.{Weight, 0w, Nonzero}

@@ -11,6 +11,7 @@ use diagram::join::Outcome;
 use diagram::make::State;
 use diagram::node::{Edge, Weight};
 use diagram::{join, restore};
+use std::io::Stdout;
 
 // The store has room for one node less than the pattern has.
 const BYTES: usize = 1048560;
@@ -80,26 +81,28 @@ fn pass(store: &mut [u8], cache: &mut [u64], s: State) -> State
     t
 }
 
-fn print(s: State) {
-    io::print_decimal(1, s.count as u64);
-    io::write_all(1, b"\n");
+fn print(stdout: Stdout, s: State) {
+    let count = s.count;
+    // What cannot be written is left out.
+    println!(stdout; "{count}").unwrap_or(());
 }
 
-fn run(store: &mut [u8], cache: &mut [u64]) {
+fn run(stdout: Stdout, store: &mut [u8], cache: &mut [u64]) {
     let s = restore::start(store, cache);
     let t = pass(store, cache, s);
-    print(t);
+    print(stdout, t);
     let u = pass(store, cache, t);
-    print(u);
+    print(stdout, u);
 }
 
 // The array as a slice; the length is known here, and nothing has to count its elements.
-fn lend(store: &mut [u8; BYTES]) {
+fn lend(stdout: Stdout, store: &mut [u8; BYTES]) {
     let mut cache = [0u64; 4];
-    run(store, &mut cache);
+    run(stdout, store, &mut cache);
 }
 
-fn main() {
+fn main(rt: HostRuntime) {
+    let stdout = rt.stdout();
     let mut store = [0u8; BYTES];
-    lend(&mut store);
+    lend(stdout, &mut store);
 }

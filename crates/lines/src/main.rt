@@ -8,10 +8,13 @@ ghost use Rattle.std.specs.Prelude.{◌≤◌, length};
 ghost use Rattle.text.specs.Squeeze.{SqueezeFits};
 ghost use Rattle.text.specs.Limits.{line_room};
 
-use libc::STDIN_FILENO;
+use std::io::{Read, Stdin, Stdout};
 use text::limits::LINE_ROOM;
 use text::squeeze;
 use text::squeeze::Squeeze;
+
+// How many bytes are read at once.
+const PART: usize = 4096;
 
 // The line that a read ends in, and whether the read brought bytes.
 #[derive(Clone, Copy)]
@@ -21,21 +24,29 @@ struct AfterRead {
 }
 
 // Reads once, shows the lines that end in what came, and answers the line that it ends in.
-fn read(line: &mut [u8], part: &mut [u8], squeeze: Squeeze) -> AfterRead
+fn read(
+    mut input: Stdin,
+    stdout: Stdout,
+    line: &mut [u8],
+    part: &mut [u8],
+    squeeze: Squeeze,
+) -> AfterRead
     requires { (line_room ≤ length line.old) × SqueezeFits squeeze }
     ensures { SqueezeFits result.squeeze }
 {
-    let got = libc::read(STDIN_FILENO, part);
-    let n = io::count(got, part);
-    let squeeze = feed::feed(line, squeeze, &part[..n]);
+    // A read that fails counts as the input's end.
+    let n = input.read(part).unwrap_or(0);
+    let squeeze = feed::feed(stdout, line, squeeze, &part[..n]);
     let more = 0 < n;
     AfterRead { squeeze, more }
 }
 
 // A proved loop has to end, and nothing says that an input does. So it counts down from a number that no run uses up.
-fn main() {
+fn main(rt: HostRuntime) {
+    let input = rt.stdin();
+    let stdout = rt.stdout();
     let mut line = [0u8; LINE_ROOM];
-    let mut part = io::buffer();
+    let mut part = [0u8; PART];
     let squeeze = squeeze::none();
     let mut after = AfterRead {
         squeeze,
@@ -43,9 +54,9 @@ fn main() {
     };
     let mut turns = u64::MAX;
     while 0 < turns {
-        after = read(&mut line, &mut part, after.squeeze);
+        after = read(input, stdout, &mut line, &mut part, after.squeeze);
         if !after.more {
-            feed::last(&line, after.squeeze);
+            feed::last(stdout, &line, after.squeeze);
             return;
         }
         turns -= 1;

@@ -1,73 +1,74 @@
 // What a line is read as, with spaces between the fields.
 use diagram::gate::Gate;
-use libc::STDOUT_FILENO;
+use std::io::{Print, Stdout};
 use text::call::Call;
 
-fn word(s: &[u8]) {
-    io::write_all(STDOUT_FILENO, s);
+// What cannot be written is left out.
+fn word(stdout: Stdout, s: &[u8]) {
+    stdout.write_all(s).unwrap_or(());
 }
 
-fn number(n: usize) {
-    word(b" ");
-    io::print_decimal(STDOUT_FILENO, n as u64);
+fn number(stdout: Stdout, n: usize) {
+    word(stdout, b" ");
+    print!(stdout; "{n}").unwrap_or(());
 }
 
-fn one(name: &[u8], a: usize) {
-    word(name);
-    number(a);
+fn one(stdout: Stdout, name: &[u8], a: usize) {
+    word(stdout, name);
+    number(stdout, a);
 }
 
-fn two(name: &[u8], a: usize, b: usize) {
-    one(name, a);
-    number(b);
+fn two(stdout: Stdout, name: &[u8], a: usize, b: usize) {
+    one(stdout, name, a);
+    number(stdout, b);
 }
 
-fn three(name: &[u8], a: usize, b: usize, c: usize) {
-    two(name, a, b);
-    number(c);
+fn three(stdout: Stdout, name: &[u8], a: usize, b: usize, c: usize) {
+    two(stdout, name, a, b);
+    number(stdout, c);
 }
 
-fn gate(g: Gate) {
+fn gate(stdout: Stdout, g: Gate) {
     match g {
-        Gate::X(q) => one(b" X", q),
-        Gate::Y(q) => one(b" Y", q),
-        Gate::Z(q) => one(b" Z", q),
-        Gate::H(q) => one(b" H", q),
-        Gate::S(q) => one(b" S", q),
-        Gate::Sd(q) => one(b" SD", q),
-        Gate::T(q) => one(b" T", q),
-        Gate::Td(q) => one(b" TD", q),
-        Gate::Cx(p, q) => two(b" CX", p, q),
-        Gate::Cz(p, q) => two(b" CZ", p, q),
-        Gate::Sw(p, q) => two(b" SW", p, q),
+        Gate::X(q) => one(stdout, b" X", q),
+        Gate::Y(q) => one(stdout, b" Y", q),
+        Gate::Z(q) => one(stdout, b" Z", q),
+        Gate::H(q) => one(stdout, b" H", q),
+        Gate::S(q) => one(stdout, b" S", q),
+        Gate::Sd(q) => one(stdout, b" SD", q),
+        Gate::T(q) => one(stdout, b" T", q),
+        Gate::Td(q) => one(stdout, b" TD", q),
+        Gate::Cx(p, q) => two(stdout, b" CX", p, q),
+        Gate::Cz(p, q) => two(stdout, b" CZ", p, q),
+        Gate::Sw(p, q) => two(stdout, b" SW", p, q),
     }
 }
 
-fn call(c: Call) {
+fn call(stdout: Stdout, c: Call) {
     match c {
-        Call::Put(d, w) => two(b"put", d, w),
+        Call::Put(d, w) => two(stdout, b"put", d, w),
         Call::Gate(d, g) => {
-            one(b"gate", d);
-            gate(g);
+            one(stdout, b"gate", d);
+            gate(stdout, g);
         }
-        Call::Unit(d, n) => two(b"unit", d, n),
-        Call::Add(d, a, b) => three(b"add", d, a, b),
+        Call::Unit(d, n) => two(stdout, b"unit", d, n),
+        Call::Add(d, a, b) => three(stdout, b"add", d, a, b),
         Call::Cont(d, a, b, m) => {
-            three(b"cont", d, a, b);
-            number(m);
+            three(stdout, b"cont", d, a, b);
+            number(stdout, m);
         }
-        Call::Low(d, a, k) => three(b"low", d, a, k),
-        Call::Drop(a) => one(b"drop", a),
-        Call::Collect => word(b"collect"),
-        Call::At(a, v) => two(b"at", a, v),
-        Call::Cmp(a, b) => two(b"cmp", a, b),
-        Call::On(a) => one(b"on", a),
-        Call::Lows(d, a, m) => three(b"lows", d, a, m),
-        Call::Refused(r) => one(b"no", text::answer::refusal_number(r)),
+        Call::Low(d, a, k) => three(stdout, b"low", d, a, k),
+        Call::Drop(a) => one(stdout, b"drop", a),
+        Call::Collect => word(stdout, b"collect"),
+        Call::At(a, v) => two(stdout, b"at", a, v),
+        Call::Cmp(a, b) => two(stdout, b"cmp", a, b),
+        Call::On(a) => one(stdout, b"on", a),
+        Call::Lows(d, a, m) => three(stdout, b"lows", d, a, m),
+        Call::Refused(r) => one(stdout, b"no", text::answer::refusal_number(r)),
     }
 }
 
-pub fn line(s: &[u8]) {
-    call(text::line::read(s));
-    word(b"\n");
+pub fn line(stdout: Stdout, s: &[u8]) {
+    call(stdout, text::line::read(s));
+    word(stdout, b"\n");
 }

@@ -14,6 +14,7 @@ use diagram::make::State;
 use diagram::node::{Edge, Index, Mask};
 use diagram::registers::{RegisterContent, RegisterNumber, Registers};
 use diagram::{build, collect, contract, lower, registers, restore, support, unit};
+use std::io::{Print, Stdout};
 
 #[derive(Clone, Copy)]
 pub struct Run {
@@ -22,24 +23,31 @@ pub struct Run {
 }
 
 // The nodes as they were before a call that did not fit.
-fn refuse(store: &mut [u8], cache: &mut [u64], run: Run) -> Run
+fn refuse(stdout: Stdout, store: &mut [u8], cache: &mut [u64], run: Run) -> Run
     requires { RollbackRequires cache.old store.old run.state
         × RegistersValid run.state.count run.registers.all }
     ensures { Invariant cache.new store.new result.state result.registers.all }
 {
-    io::write_all(1, b"full\n");
+    stdout.write_all(b"full\n").unwrap_or(());
     let state = restore::rollback(store, cache, run.state);
     let registers = run.registers;
     Run { state, registers }
 }
 
 // Register d is a gate.
-pub fn gate(store: &mut [u8], cache: &mut [u64], run: Run, d: RegisterNumber, g: Gate) -> Run
+pub fn gate(
+    stdout: Stdout,
+    store: &mut [u8],
+    cache: &mut [u64],
+    run: Run,
+    d: RegisterNumber,
+    g: Gate,
+) -> Run
     requires { Invariant cache.old store.old run.state run.registers.all × (QubitsInRange g × (d < 16)) }
     ensures { Invariant cache.new store.new result.state result.registers.all }
 {
     let Outcome::Edge(e, state) = build::gate(store, run.state, g) else {
-        return refuse(store, cache, run);
+        return refuse(stdout, store, cache, run);
     };
     let registers = registers::put(run.registers, d, e);
     Run { state, registers }
@@ -47,6 +55,7 @@ pub fn gate(store: &mut [u8], cache: &mut [u64], run: Run, d: RegisterNumber, g:
 
 // Register d is the product of two edges, added over the indices of m.
 fn multiply(
+    stdout: Stdout,
     store: &mut [u8],
     cache: &mut [u64],
     run: Run,
@@ -60,14 +69,21 @@ fn multiply(
     ensures { Invariant cache.new store.new result.state result.registers.all }
 {
     let Outcome::Edge(e, state) = contract::contract(store, cache, run.state, a, b, m) else {
-        return refuse(store, cache, run);
+        return refuse(stdout, store, cache, run);
     };
     let registers = registers::put(run.registers, d, e);
     Run { state, registers }
 }
 
 // Register d is the product of registers 0 and 1, if they are filled.
-pub fn cont(store: &mut [u8], cache: &mut [u64], run: Run, d: RegisterNumber, m: Mask) -> Run
+pub fn cont(
+    stdout: Stdout,
+    store: &mut [u8],
+    cache: &mut [u64],
+    run: Run,
+    d: RegisterNumber,
+    m: Mask,
+) -> Run
     requires { Invariant cache.old store.old run.state run.registers.all × ((d < 16) × (m < masks)) }
     ensures { Invariant cache.new store.new result.state result.registers.all }
 {
@@ -77,7 +93,7 @@ pub fn cont(store: &mut [u8], cache: &mut [u64], run: Run, d: RegisterNumber, m:
     let RegisterContent::Edge(b) = registers::get(run.registers, 1) else {
         return run;
     };
-    multiply(store, cache, run, d, a, b, m)
+    multiply(stdout, store, cache, run, d, a, b, m)
 }
 
 // A collection, or nothing.
@@ -95,32 +111,32 @@ pub fn tidy(store: &mut [u8], cache: &mut [u64], run: Run, collecting: bool) -> 
 }
 
 // Register 0 is the unit on n qubits.
-pub fn unit(store: &mut [u8], cache: &mut [u64], run: Run, n: QubitCount) -> Run
+pub fn unit(stdout: Stdout, store: &mut [u8], cache: &mut [u64], run: Run, n: QubitCount) -> Run
     requires { Invariant cache.old store.old run.state run.registers.all × (n ≤ 8) }
     ensures { Invariant cache.new store.new result.state result.registers.all }
 {
     let Outcome::Edge(e, state) = unit::unit(store, run.state, n) else {
-        return refuse(store, cache, run);
+        return refuse(stdout, store, cache, run);
     };
     let registers = registers::put(run.registers, 0, e);
     Run { state, registers }
 }
 
 // Register 0 is an edge's tensor with index k renamed k - 1.
-fn rename(store: &mut [u8], cache: &mut [u64], run: Run, a: Edge, k: Index) -> Run
+fn rename(stdout: Stdout, store: &mut [u8], cache: &mut [u64], run: Run, a: Edge, k: Index) -> Run
     requires { Invariant cache.old store.old run.state run.registers.all ×
         (Valid run.state.count a × LowerRequires store.old run.state a k) }
     ensures { Invariant cache.new store.new result.state result.registers.all }
 {
     let Outcome::Edge(e, state) = lower::lower(store, cache, run.state, a, k) else {
-        return refuse(store, cache, run);
+        return refuse(stdout, store, cache, run);
     };
     let registers = registers::put(run.registers, 0, e);
     Run { state, registers }
 }
 
 // The same for what register 0 holds, where that does not depend on k - 1.
-pub fn low(store: &mut [u8], cache: &mut [u64], run: Run, k: Index) -> Run
+pub fn low(stdout: Stdout, store: &mut [u8], cache: &mut [u64], run: Run, k: Index) -> Run
     requires { Invariant cache.old store.old run.state run.registers.all × ((1 ≤ k) × (k ≤ 23)) }
     ensures { Invariant cache.new store.new result.state result.registers.all }
 {
@@ -131,5 +147,5 @@ pub fn low(store: &mut [u8], cache: &mut [u64], run: Run, k: Index) -> Run
     if support::depends(store, run.state, a, j) {
         return run;
     }
-    rename(store, cache, run, a, k)
+    rename(stdout, store, cache, run, a, k)
 }

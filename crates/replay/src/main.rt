@@ -28,29 +28,30 @@ use calls::Run;
 use diagram::gate::Gate;
 use diagram::node::Mask;
 use diagram::{registers, restore};
+use std::io::Stdout;
 
 // The index that is added over: the middle of qubit 0.
 const MIDDLE: Mask = 2;
 
 // Two gates, and their product over the middle.
-fn product(store: &mut [u8], cache: &mut [u64], run: Run, g: Gate, h: Gate) -> Run
+fn product(stdout: Stdout, store: &mut [u8], cache: &mut [u64], run: Run, g: Gate, h: Gate) -> Run
     requires { Invariant cache.old store.old run.state run.registers.all
         × (QubitsInRange g × QubitsInRange h) }
     ensures { Invariant cache.new store.new result.state result.registers.all }
 {
-    let one = calls::gate(store, cache, run, 0, g);
-    let two = calls::gate(store, cache, one, 1, h);
-    calls::cont(store, cache, two, 2, MIDDLE)
+    let one = calls::gate(stdout, store, cache, run, 0, g);
+    let two = calls::gate(stdout, store, cache, one, 1, h);
+    calls::cont(stdout, store, cache, two, 2, MIDDLE)
 }
 
 // The gates, their product and the count of the nodes.
-fn report(store: &[u8], run: Run)
+fn report(stdout: Stdout, store: &[u8], run: Run)
     requires { Sound store.now run.state × RegistersValid run.state.count run.registers.all }
 {
-    show::register(store, run, 0);
-    show::register(store, run, 1);
-    show::register(store, run, 2);
-    show::count(run);
+    show::register(stdout, store, run, 0);
+    show::register(stdout, store, run, 1);
+    show::register(stdout, store, run, 2);
+    show::count(stdout, run);
 }
 
 // Empties the three registers.
@@ -65,34 +66,36 @@ fn forget(run: Run) -> Run
 }
 
 // The second pair of gates, after the first is dropped.
-fn again(store: &mut [u8], cache: &mut [u64], run: Run, collecting: bool)
+fn again(stdout: Stdout, store: &mut [u8], cache: &mut [u64], run: Run, collecting: bool)
     requires { Invariant cache.old store.old run.state run.registers.all }
 {
     let left = forget(run);
     let next = calls::tidy(store, cache, left, collecting);
-    show::count(next);
-    let last = product(store, cache, next, Gate::X(0), Gate::Y(0));
-    report(store, last);
+    show::count(stdout, next);
+    let last = product(stdout, store, cache, next, Gate::X(0), Gate::Y(0));
+    report(stdout, store, last);
 }
 
-fn replay(store: &mut [u8], cache: &mut [u64], collecting: bool) {
+fn replay(stdout: Stdout, store: &mut [u8], cache: &mut [u64], collecting: bool) {
     let state = restore::start(store, cache);
     let registers = registers::empty();
     let run = product(
+        stdout,
         store,
         cache,
         Run { state, registers },
         Gate::Z(0),
         Gate::S(0),
     );
-    report(store, run);
-    again(store, cache, run, collecting);
+    report(stdout, store, run);
+    again(stdout, store, cache, run, collecting);
 }
 
-fn main() {
+fn main(rt: HostRuntime) {
+    let stdout = rt.stdout();
     let mut store = [0u8; 32768];
     let mut cache = [0u64; 256];
-    replay(&mut store, &mut cache, true);
-    replay(&mut store, &mut cache, false);
-    circuit::run(&mut store, &mut cache);
+    replay(stdout, &mut store, &mut cache, true);
+    replay(stdout, &mut store, &mut cache, false);
+    circuit::run(stdout, &mut store, &mut cache);
 }

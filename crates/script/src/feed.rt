@@ -1,5 +1,6 @@
 // The sessions, from parts of the input that end anywhere.
 use crate::run;
+use std::io::Stdout;
 
 // How many bytes of a session have come: one more than the buffer's length where they are too many. Every other session
 // is lent a cache of no words.
@@ -10,26 +11,33 @@ pub struct Place {
 }
 
 // A session of `length` bytes has come. One that is longer than the buffer is not run.
-fn end(text: &[u8], store: &mut [u8], cache: &mut [u64], place: Place) {
+fn end(stdout: Stdout, text: &[u8], store: &mut [u8], cache: &mut [u64], place: Place) {
     let a = 0;
     let n = place.length;
     if text.len() < n {
-        run::word(b"too long\n");
+        run::word(stdout, b"too long\n");
         return;
     }
     if place.cached {
-        run::run(&text[a..n], store, cache);
+        run::run(stdout, &text[a..n], store, cache);
     } else {
-        run::run(&text[a..n], store, &mut cache[a..a]);
+        run::run(stdout, &text[a..n], store, &mut cache[a..a]);
     }
 }
 
 // One byte more. The store and the cache go on from session to session as they are left.
-fn step(text: &mut [u8], store: &mut [u8], cache: &mut [u64], place: Place, b: u8) -> Place {
+fn step(
+    stdout: Stdout,
+    text: &mut [u8],
+    store: &mut [u8],
+    cache: &mut [u64],
+    place: Place,
+    b: u8,
+) -> Place {
     let length = place.length;
     let cached = place.cached;
     if b == 0 {
-        end(text, store, cache, place);
+        end(stdout, text, store, cache, place);
         return Place {
             length: 0,
             cached: !cached,
@@ -50,6 +58,7 @@ fn step(text: &mut [u8], store: &mut [u8], cache: &mut [u64], place: Place, b: u
 
 // The bytes that come next.
 pub fn feed(
+    stdout: Stdout,
     text: &mut [u8],
     store: &mut [u8],
     cache: &mut [u64],
@@ -59,7 +68,7 @@ pub fn feed(
     let mut p = place;
     let mut i = 0;
     while i < part.len() {
-        p = step(text, store, cache, p, part[i]);
+        p = step(stdout, text, store, cache, p, part[i]);
         i += 1;
     }
     p

@@ -3,7 +3,7 @@ ghost use Rattle.std.specs.Prelude.{◌≤◌, length};
 ghost use Rattle.session.specs.Answer.{memory, AnswerRequires, AnswerEnsures, ReplyEnsures};
 ghost use Rattle.text.specs.Limits.{answer_room};
 
-use libc::STDOUT_FILENO;
+use std::io::{Print, Stdout};
 use text::engine::Engine;
 use text::limits::ANSWER_ROOM;
 use text::progress;
@@ -39,6 +39,7 @@ fn reply(
 
 // Runs the line and writes its answer.
 pub fn answer(
+    stdout: Stdout,
     line: &mut [u8],
     store: &mut [u8],
     cache: &mut [u64],
@@ -53,7 +54,7 @@ pub fn answer(
     let p = reply(line, store, cache, &mut out, squeeze, engine);
     let a = 0;
     let n = p.bytes;
-    let written = io::write_all(STDOUT_FILENO, &out[a..n]);
+    let written = stdout.write_all(&out[a..n]).is_ok();
     let engine = p.engine;
     LineResult { engine, written }
 }

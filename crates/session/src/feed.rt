@@ -6,6 +6,7 @@ ghost use Rattle.session.specs.Feed.{FeedRequires, FeedEnsures, LastEnsures};
 
 use crate::answer;
 use crate::answer::LineResult;
+use std::io::Stdout;
 use text::engine::Engine;
 use text::squeeze;
 use text::squeeze::Squeeze;
@@ -19,6 +20,7 @@ pub struct SessionState {
 }
 
 fn step(
+    stdout: Stdout,
     line: &mut [u8],
     store: &mut [u8],
     cache: &mut [u64],
@@ -34,7 +36,7 @@ fn step(
     let written = state.written;
     if written {
         if b == b'\n' {
-            let result = answer::answer(line, store, cache, squeeze, engine);
+            let result = answer::answer(stdout, line, store, cache, squeeze, engine);
             let squeeze = squeeze::none();
             let engine = result.engine;
             let written = result.written;
@@ -56,6 +58,7 @@ fn step(
 
 // The bytes that come next.
 pub fn feed(
+    stdout: Stdout,
     line: &mut [u8],
     store: &mut [u8],
     cache: &mut [u64],
@@ -70,14 +73,20 @@ pub fn feed(
     let mut next = state;
     let mut i = 0;
     while i < part.len() {
-        next = step(line, store, cache, next, part[i]);
+        next = step(stdout, line, store, cache, next, part[i]);
         i += 1;
     }
     next
 }
 
 // "a last part without LF counts unless empty"; of a line that has a byte, one is kept.
-pub fn last(line: &mut [u8], store: &mut [u8], cache: &mut [u64], state: SessionState) -> LineResult
+pub fn last(
+    stdout: Stdout,
+    line: &mut [u8],
+    store: &mut [u8],
+    cache: &mut [u64],
+    state: SessionState,
+) -> LineResult
     requires { FeedRequires (memory line.old cache.old store.old) state × (state.written ≡ true) }
     ensures { LastEnsures (memory line.old cache.old store.old) state
         store.new result }
@@ -85,7 +94,7 @@ pub fn last(line: &mut [u8], store: &mut [u8], cache: &mut [u64], state: Session
     let squeeze = state.squeeze;
     let engine = state.engine;
     if 0 < squeeze.length {
-        return answer::answer(line, store, cache, squeeze, engine);
+        return answer::answer(stdout, line, store, cache, squeeze, engine);
     }
     let written = true;
     LineResult { engine, written }

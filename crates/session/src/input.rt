@@ -1,13 +1,17 @@
 // Standard input, part after part.
 ghost use Rattle.std.specs.Prelude.{◌≡◌, true};
-ghost use Rattle.io.specs.Counts.{IsPrefixLen};
+ghost use Rattle.stdin.specs.Stdin.{IsPrefixLen};
 ghost use Rattle.session.specs.Answer.{memory};
 ghost use Rattle.session.specs.Feed.{FeedRequires};
 ghost use Rattle.session.specs.Input.{reads_more, TakeEnsures, ReadEnsures, InputInvariant, ReceiveEnsures};
 
 use crate::feed;
 use crate::feed::SessionState;
+use std::io::{Stdin, Stdout};
 use stdin::{Next, ReadResult};
+
+// How many bytes are read at once.
+const PART: usize = 4096;
 
 // What a read leaves, and what it says of what comes next.
 #[derive(Clone, Copy)]
@@ -18,6 +22,7 @@ pub struct AfterRead {
 
 // Takes in what came, which stands at the front of `part`.
 fn take(
+    stdout: Stdout,
     line: &mut [u8],
     store: &mut [u8],
     cache: &mut [u64],
@@ -32,22 +37,29 @@ fn take(
 {
     let n = res.count;
     let next = res.next;
-    let state = feed::feed(line, store, cache, state, &part[..n]);
+    let state = feed::feed(stdout, line, store, cache, state, &part[..n]);
     AfterRead { state, next }
 }
 
 // Reads once, and answers the lines that end in what came.
-fn read(line: &mut [u8], store: &mut [u8], cache: &mut [u64], state: SessionState) -> AfterRead
+fn read(
+    input: Stdin,
+    stdout: Stdout,
+    line: &mut [u8],
+    store: &mut [u8],
+    cache: &mut [u64],
+    state: SessionState,
+) -> AfterRead
     requires { FeedRequires (memory line.old cache.old store.old) state }
     ensures { ReadEnsures (memory line.old cache.old store.old) state
         (memory line.new cache.new store.new) result }
 {
-    let mut part = io::buffer();
-    let result = stdin::read(&mut part);
-    take(line, store, cache, state, result, &part)
+    let mut part = [0u8; PART];
+    let result = stdin::read(input, &mut part);
+    take(stdout, line, store, cache, state, result, &part)
 }
 
-fn reads_more_lem(after: AfterRead) -> bool
+fn reads_more(after: AfterRead) -> bool
     ensures { result ≡ reads_more after }
 {
     let state = after.state;
@@ -62,6 +74,8 @@ fn reads_more_lem(after: AfterRead) -> bool
 // Reads to the input's end, or to the first answer that could not be written. A proved loop has to end, and nothing
 // says that an input does. So it counts down from a number that no run uses up.
 pub fn receive(
+    input: Stdin,
+    stdout: Stdout,
     line: &mut [u8],
     store: &mut [u8],
     cache: &mut [u64],
@@ -77,7 +91,7 @@ pub fn receive(
     };
     let mut turns = u64::MAX;
     while 0 < turns {
-        after = read(line, store, cache, after.state);
+        after = read(input, stdout, line, store, cache, after.state);
         if !reads_more(after) {
             return after;
         }

@@ -17,8 +17,8 @@ ghost use Rattle.session.specs.Feed.{FeedInvariant};
 ghost use Rattle.session.specs.Session.{SessionEnsures};
 
 use feed::SessionState;
-use libc::STDERR_FILENO;
 use outcome::{Ending, Outcome};
+use std::io::{Print, Stderr, Stdin, Stdout};
 use text::limits::LINE_ROOM;
 use text::{engine, squeeze};
 
@@ -29,15 +29,22 @@ const STORE: usize = 32768;
 const CACHE: usize = 16384;
 
 // The input to its end, and its last line.
-fn session(line: &mut [u8], store: &mut [u8], cache: &mut [u64], start: SessionState) -> Outcome
+fn session(
+    input: Stdin,
+    stdout: Stdout,
+    line: &mut [u8],
+    store: &mut [u8],
+    cache: &mut [u64],
+    start: SessionState,
+) -> Outcome
     requires { FeedInvariant [] 0 (memory line.old cache.old store.old) start × (start.written ≡ true) }
     ensures { SessionEnsures store.new result }
 {
-    let after = input::receive(line, store, cache, start);
-    outcome::finish(line, store, cache, after)
+    let after = input::receive(input, stdout, line, store, cache, start);
+    outcome::finish(stdout, line, store, cache, after)
 }
 
-fn run(store: &mut [u8], cache: &mut [u64]) -> Outcome
+fn run(input: Stdin, stdout: Stdout, store: &mut [u8], cache: &mut [u64]) -> Outcome
     requires { capacity store.old ≡ 2048 }
     ensures { SessionEnsures store.new result }
 {
@@ -50,29 +57,39 @@ fn run(store: &mut [u8], cache: &mut [u64]) -> Outcome
         engine,
         written,
     };
-    session(&mut line, store, cache, start)
+    session(input, stdout, &mut line, store, cache, start)
 }
 
-fn say(s: &[u8]) {
-    io::write_all(STDERR_FILENO, s);
+// What cannot be written is left out.
+fn say(stderr: Stderr, s: &[u8]) {
+    stderr.write_all(s).unwrap_or(());
 }
 
-fn report(o: Outcome) {
+fn report(stderr: Stderr, o: Outcome) {
     let ending = o.ending;
     match ending {
         Ending::Complete => {}
-        Ending::ReadFailed => say(b"session: reading failed\n"),
-        Ending::WriteFailed => say(b"session: writing failed\n"),
+        Ending::ReadFailed => say(stderr, b"session: reading failed\n"),
+        Ending::WriteFailed => say(stderr, b"session: writing failed\n"),
     }
 }
 
 // The arrays as slices; their lengths are known here, and nothing has to count their elements.
-fn lend(store: &mut [u8; STORE], cache: &mut [u64; CACHE]) {
-    report(run(store, cache));
+fn lend(
+    input: Stdin,
+    stdout: Stdout,
+    stderr: Stderr,
+    store: &mut [u8; STORE],
+    cache: &mut [u64; CACHE],
+) {
+    report(stderr, run(input, stdout, store, cache));
 }
 
-fn main() {
+fn main(rt: HostRuntime) {
+    let input = rt.stdin();
+    let stdout = rt.stdout();
+    let stderr = rt.stderr();
     let mut store = [0u8; STORE];
     let mut cache = [0u64; CACHE];
-    lend(&mut store, &mut cache);
+    lend(input, stdout, stderr, &mut store, &mut cache);
 }

@@ -7,6 +7,7 @@ ghost use Rattle.session.specs.Outcome.{CloseEnsures, FinishEnsures};
 use crate::feed;
 use crate::feed::SessionState;
 use crate::input::AfterRead;
+use std::io::Stdout;
 use stdin::Next;
 use text::engine::Engine;
 
@@ -26,12 +27,18 @@ pub struct Outcome {
 }
 
 // The input has ended, and with it its last line.
-fn close(line: &mut [u8], store: &mut [u8], cache: &mut [u64], state: SessionState) -> Outcome
+fn close(
+    stdout: Stdout,
+    line: &mut [u8],
+    store: &mut [u8],
+    cache: &mut [u64],
+    state: SessionState,
+) -> Outcome
     requires { FeedRequires (memory line.old cache.old store.old) state × (state.written ≡ true) }
     ensures { CloseEnsures (memory line.old cache.old store.old) state
         store.new result }
 {
-    let result = feed::last(line, store, cache, state);
+    let result = feed::last(stdout, line, store, cache, state);
     let engine = result.engine;
     if result.written {
         let ending = Ending::Complete;
@@ -42,7 +49,13 @@ fn close(line: &mut [u8], store: &mut [u8], cache: &mut [u64], state: SessionSta
 }
 
 // No more is read. Where more could have come, the line that has begun is not run.
-pub fn finish(line: &mut [u8], store: &mut [u8], cache: &mut [u64], after: AfterRead) -> Outcome
+pub fn finish(
+    stdout: Stdout,
+    line: &mut [u8],
+    store: &mut [u8],
+    cache: &mut [u64],
+    after: AfterRead,
+) -> Outcome
     requires { FeedRequires (memory line.old cache.old store.old) after.state }
     ensures { FinishEnsures (memory line.old cache.old store.old) after
         store.new result }
@@ -53,7 +66,7 @@ pub fn finish(line: &mut [u8], store: &mut [u8], cache: &mut [u64], after: After
     let ending = Ending::ReadFailed;
     if state.written {
         match next {
-            Next::End => return close(line, store, cache, state),
+            Next::End => return close(stdout, line, store, cache, state),
             Next::More => return Outcome { engine, ending },
             Next::Failed => return Outcome { engine, ending },
         }

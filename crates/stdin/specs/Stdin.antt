@@ -1,12 +1,24 @@
 -- What one read of standard input promises.
-use Rattle.std.specs.Prelude.{◌≡◌, Bool, true, false, ℕ, zero, suc, ℤ, pos, negsuc}
-use Rattle.io.specs.Counts.{clamp_len}
-use Rattle.libc.specs.Io.{Moved}
+use Rattle.std.specs.Prelude.{◌≡◌, Bool, true, false, ℕ, zero, suc, ◌≤◌, min, List, length, take, ℤ, pos, negsuc}
 use Rattle.stdin.specs.declared.Next.{Next}
 use Rattle.stdin.specs.declared.Next.TheVariants.{More, End, Failed}
 use Rattle.stdin.specs.declared.ReadResult.{ReadResult}
 
--- what `libc::read` answers: how many bytes came, 0 at the input's end, or -1 where it failed
+-- `&xs[..n]` is in bounds and has n bytes
+abbrev pub IsPrefixLen : ℕ → List ℕ → Type 0
+IsPrefixLen n xs = (n ≤ length xs) × (n ≡ length (take n xs))
+
+-- what a read that is handed n bytes may answer: -1, or how many bytes it moved, at most n
+abbrev pub Moved : ℕ → ℤ → Type 0
+Moved n (pos k) = k ≤ n
+Moved n (negsuc k) = k ≡ 0
+
+-- that answer, brought into 0 to most
+abbrev pub clamp_len : ℤ → ℕ → ℕ
+clamp_len (pos k) most = min k most
+clamp_len (negsuc k) most = 0
+
+-- what a read answers: how many bytes came, 0 at the input's end, or -1 where it failed
 abbrev pub next_of : ℤ → Next
 next_of (pos zero) = End
 next_of (pos (suc n)) = More
@@ -21,7 +33,7 @@ is_more Failed = false
 abbrev pub result_of : ℤ → ℕ → ReadResult
 result_of got n = record { count = clamp_len got n; next = next_of got }
 
--- a result that `libc::read` may give for a buffer of n bytes
+-- a result that a read may give for a buffer of n bytes
 pub record PossibleRead (n : ℕ) (r : ReadResult) : Type 0 where
   pub got : ℤ
   pub moved : Moved n got

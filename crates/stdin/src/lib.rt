@@ -2,10 +2,9 @@
 #![tactic(auto)]
 
 ghost use Rattle.std.specs.Prelude.{◌≡◌, length};
-ghost use Rattle.io.specs.Counts.{IsPrefixLen};
-ghost use Rattle.stdin.specs.Stdin.{next_of, is_more, result_of, PossibleRead};
+ghost use Rattle.stdin.specs.Stdin.{IsPrefixLen, is_more, PossibleRead};
 
-use libc::STDIN_FILENO;
+use std::io::{Read, Stdin};
 
 // Bytes came, and more may; the input has ended; or reading failed, and nobody knows what is missing.
 #[derive(Clone, Copy)]
@@ -22,18 +21,6 @@ pub struct ReadResult {
     pub next: Next,
 }
 
-fn next_of(got: isize) -> Next
-    ensures { result ≡ next_of got }
-{
-    if got < 0 {
-        return Next::Failed;
-    }
-    if 0 < got {
-        return Next::More;
-    }
-    Next::End
-}
-
 // Whether to read again.
 pub fn is_more(next: Next) -> bool
     ensures { result ≡ is_more next }
@@ -45,20 +32,24 @@ pub fn is_more(next: Next) -> bool
     }
 }
 
-// What `libc::read` answered for this buffer.
-fn result_of(got: isize, buffer: &[u8]) -> ReadResult
-    ensures prefix_len { IsPrefixLen result.count buffer.now }
-    ensures value { result ≡ result_of got (length buffer.now) }
-{
-    let count = io::count(got, buffer);
-    let next = next_of(got);
-    ReadResult { count, next }
-}
-
-pub fn read(buffer: &mut [u8]) -> ReadResult
+// One read into the buffer.
+pub fn read(input: Stdin, buffer: &mut [u8]) -> ReadResult
     ensures prefix_len { IsPrefixLen result.count buffer.new }
     ensures possible_read { PossibleRead (length buffer.new) result }
 {
-    let got = libc::read(STDIN_FILENO, buffer);
-    result_of(got, buffer)
+    let mut input = input;
+    match input.read(buffer) {
+        Ok(0) => ReadResult {
+            count: 0,
+            next: Next::End,
+        },
+        Ok(count) => ReadResult {
+            count,
+            next: Next::More,
+        },
+        Err(_) => ReadResult {
+            count: 0,
+            next: Next::Failed,
+        },
+    }
 }

@@ -1,5 +1,5 @@
 -- Laws of Engine: the start, and how a step is settled.
-use Rattle.std.specs.Prelude.{◌≡◌, refl, List, true, false, ℕ, ◌≤◌, ◌<◌, length, set}
+use Rattle.std.specs.Prelude.{◌≡◌, refl, List, false, ℕ, ◌≤◌, ◌<◌, length, set}
 use Rattle.std.proofs.Common.{◌∙◌, ap, sym, subst, arith, le-leb}
 use Rattle.std.proofs.lemmas.Bool.{false≢true, lt-leb}
 use Rattle.diagram.specs.Restore.{StartEnsures, RollbackEnsures, RollbackRequires}

@@ -1,5 +1,5 @@
 -- Words for the laws of matrices: which indices a mask, an assignment and a tensor have at a gate's qubits.
-use Rattle.std.specs.Prelude.{List, [], ◌∷◌, ◌≡◌, false, cond, ℕ, ◌-◌, suc, ◌*◌, ◌/◌, ◌%◌, eqb}
+use Rattle.std.specs.Prelude.{List, [], ◌∷◌, ◌≡◌, false, cond, ℕ, suc, ◌*◌, ◌/◌, ◌%◌, eqb}
 use Rattle.diagram.specs.Tensor.{Bits, fresh, middle, assign, input, Tensor, at}
 use Rattle.text.specs.Product.{BasisState, Operator, outputs, inputs}
 

@@ -1,7 +1,7 @@
 -- A list's tensor is the product of its gates' matrices.
 use Rattle.std.proofs.Common.{ap, sym, ◌∙◌, ap₂, arith, eq-eqb, ne_eqb}
 use Rattle.std.proofs.Math.Path.{fun_ext}
-use Rattle.std.specs.Prelude.{refl, ◌≡◌, List, [], ◌∷◌, Bool, cond, ◌&&◌, ◌↔◌, ℕ, ◌-◌, suc, ◌*◌, ◌≤◌, zero, ◌/◌, ◌%◌, ◌+◌}
+use Rattle.std.specs.Prelude.{refl, ◌≡◌, List, [], ◌∷◌, Bool, cond, ◌&&◌, ◌↔◌, ℕ, suc, ◌*◌, ◌≤◌, zero, ◌/◌, ◌%◌, ◌+◌}
 use Rattle.std.proofs.Math.Decide.{ℕ_discrete}
 use Rattle.diagram.specs.Tensor.{Bits, input, middle, fresh, assign, Tensor, bits, at, value, scale}
 use Rattle.diagram.specs.Tensor.{indices, indices_count}

@@ -7,7 +7,7 @@ use Rattle.text.specs.Limits.{answer_room}
 use Rattle.text.specs.Line.{read_line}
 use Rattle.text.specs.Answer.{is_no}
 use Rattle.text.specs.Session.{TallyRun, Tally, at_most, with_answer, answer, run}
-use Rattle.text.specs.Agrees.{Unchanged, line, AgreesThroughout, Passes, before_stop}
+use Rattle.text.specs.Agrees.{Unchanged, AgreesThroughout, Passes, before_stop}
 use Rattle.text.specs.Split.{part, Ends}
 use Rattle.text.specs.Engine.{tally_of, EngineInvariant}
 use Rattle.text.specs.declared.progress.Progress.{Progress}

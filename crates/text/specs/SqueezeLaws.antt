@@ -1,5 +1,5 @@
 -- Laws of Squeeze: byte by byte.
-use Rattle.std.specs.Prelude.{refl, ◌≡◌, ◌∷◌, ◌++◌, [], ◌≢◌, ◌-◌, ℕ, ◌+◌, ◌<◌, ◌≤◌, take, length, set}
+use Rattle.std.specs.Prelude.{refl, ◌≡◌, ◌∷◌, ◌++◌, [], ◌≢◌, ℕ, ◌+◌, ◌<◌, ◌≤◌, take, length, set}
 use Rattle.std.proofs.Common.{◌∙◌, append-nil, append_assoc, arith, add-one, length-set, take-suc-set, get_or-set_other}
 use Rattle.text.specs.Text.{Bytes}
 use Rattle.text.specs.Limits.{line_room}

@@ -22,7 +22,6 @@ use Rattle.text.specs.declared.ruling.VerdictResult.{VerdictResult}
 use Rattle.diagram.specs.declared.gate.Gate.{Gate}
 use Rattle.text.specs.declared.check.Fault.{Fault}
 use Rattle.text.specs.declared.check.Fault.TheVariants.{Full}
-use Rattle.text.specs.declared.ruling.Ruling.{Ruling}
 use Rattle.text.specs.declared.ruling.Ruling.TheVariants.{Factor, No}
 use Rattle.text.specs.declared.call.Refusal.TheVariants as refusal
 

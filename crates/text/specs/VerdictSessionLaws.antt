@@ -1,5 +1,5 @@
 -- Laws of VerdictSession: both lists run, or the session is refused as full; what is compared are the lists' tensors.
-use Rattle.std.specs.Prelude.{◌≡◌, refl, List, [], ◌∷◌, ℕ, ◌-◌, ◌+◌, ◌≤◌, length, get_or}
+use Rattle.std.specs.Prelude.{◌≡◌, refl, List, [], ◌∷◌, ℕ, ◌+◌, ◌≤◌, length, get_or}
 use Rattle.std.proofs.Common.{sym, ◌∙◌, arith}
 use Rattle.std.proofs.Math.Option.{none, some}
 use Rattle.diagram.specs.Gate.{unit_tensor}

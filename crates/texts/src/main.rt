@@ -2,49 +2,55 @@
 // `no`, a fault's number and its line. A byte 0 ends a text.
 #![tactic(auto)]
 
-use libc::{STDIN_FILENO, STDOUT_FILENO};
+use std::io::{Print, Read, Stdin, Stdout};
 use text::check::CheckResult;
 
-fn word(s: &[u8]) {
-    io::write_all(STDOUT_FILENO, s);
+// The longest text, and how many bytes are read at once.
+const TEXT: usize = 65536;
+
+const PART: usize = 4096;
+
+// What cannot be written is left out.
+fn word(stdout: Stdout, s: &[u8]) {
+    stdout.write_all(s).unwrap_or(());
 }
 
-fn number(n: usize) {
-    word(b" ");
-    io::print_decimal(STDOUT_FILENO, n as u64);
+fn number(stdout: Stdout, n: usize) {
+    word(stdout, b" ");
+    print!(stdout; "{n}").unwrap_or(());
 }
 
-fn show(checked: CheckResult) {
+fn show(stdout: Stdout, checked: CheckResult) {
     match checked {
         CheckResult::Good(n, parting, count) => {
-            word(b"good");
-            number(n);
-            number(parting);
-            number(count);
+            word(stdout, b"good");
+            number(stdout, n);
+            number(stdout, parting);
+            number(stdout, count);
         }
         CheckResult::Faulty(f, line) => {
-            word(b"no");
-            number(text::ruling::fault_number(f));
-            number(line);
+            word(stdout, b"no");
+            number(stdout, text::ruling::fault_number(f));
+            number(stdout, line);
         }
     }
-    word(b"\n");
+    word(stdout, b"\n");
 }
 
 // A text of `len` bytes has come. One that is longer than the buffer is not checked.
-fn end(text: &[u8], len: usize) {
+fn end(stdout: Stdout, text: &[u8], len: usize) {
     let a = 0;
     if len <= text.len() {
-        show(text::check::check(&text[a..len]));
+        show(stdout, text::check::check(&text[a..len]));
     } else {
-        word(b"too long\n");
+        word(stdout, b"too long\n");
     }
 }
 
 // One byte more, and how many the text has now.
-fn step(text: &mut [u8], len: usize, b: u8) -> usize {
+fn step(stdout: Stdout, text: &mut [u8], len: usize, b: u8) -> usize {
     if b == 0 {
-        end(text, len);
+        end(stdout, text, len);
         return 0;
     }
     if len < text.len() {
@@ -54,11 +60,11 @@ fn step(text: &mut [u8], len: usize, b: u8) -> usize {
     text.len() + 1
 }
 
-fn feed(text: &mut [u8], len: usize, part: &[u8]) -> usize {
+fn feed(stdout: Stdout, text: &mut [u8], len: usize, part: &[u8]) -> usize {
     let mut n = len;
     let mut i = 0;
     while i < part.len() {
-        n = step(text, n, part[i]);
+        n = step(stdout, text, n, part[i]);
         i += 1;
     }
     n
@@ -71,23 +77,31 @@ enum AfterRead {
     End,
 }
 
-fn read(text: &mut [u8], part: &mut [u8], len: usize) -> AfterRead {
-    let got = libc::read(STDIN_FILENO, part);
-    if got <= 0 {
+fn read(
+    mut input: Stdin,
+    stdout: Stdout,
+    text: &mut [u8],
+    part: &mut [u8],
+    len: usize,
+) -> AfterRead {
+    // A read that fails counts as the input's end.
+    let n = input.read(part).unwrap_or(0);
+    if n == 0 {
         return AfterRead::End;
     }
-    let n = io::count(got, part);
-    AfterRead::More(feed(text, len, &part[..n]))
+    AfterRead::More(feed(stdout, text, len, &part[..n]))
 }
 
 // A proved loop has to end, and nothing says that an input does. So it counts down from a number that no run uses up.
-fn main() {
-    let mut text = io::large_buffer();
-    let mut part = io::buffer();
+fn main(rt: HostRuntime) {
+    let input = rt.stdin();
+    let stdout = rt.stdout();
+    let mut text = [0u8; TEXT];
+    let mut part = [0u8; PART];
     let mut len: usize = 0;
     let mut turns = u64::MAX;
     while 0 < turns {
-        match read(&mut text, &mut part, len) {
+        match read(input, stdout, &mut text, &mut part, len) {
             AfterRead::More(n) => len = n,
             AfterRead::End => return,
         }

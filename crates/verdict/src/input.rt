@@ -1,9 +1,13 @@
 // Standard input, part after part, into one buffer.
 ghost use Rattle.std.specs.Prelude.{[], ◌∷◌};
-ghost use Rattle.io.specs.Counts.{IsPrefixLen};
+ghost use Rattle.stdin.specs.Stdin.{IsPrefixLen};
 ghost use Rattle.verdict.specs.Input.{FeedEnsures, TakeEnsures, ReadEnsures, Reads};
 
+use std::io::Stdin;
 use stdin::{Next, ReadResult};
+
+// How many bytes are read at once.
+const PART: usize = 4096;
 
 // How many bytes have come, and what the last read says of what comes next.
 #[derive(Clone, Copy)]
@@ -47,17 +51,17 @@ fn take(text: &mut [u8], len: usize, res: ReadResult, part: &[u8]) -> AfterRead
     AfterRead { len, next }
 }
 
-fn read(text: &mut [u8], len: usize) -> AfterRead
+fn read(input: Stdin, text: &mut [u8], len: usize) -> AfterRead
     ensures { ReadEnsures text.old len text.new result }
 {
-    let mut part = io::buffer();
-    let result = stdin::read(&mut part);
+    let mut part = [0u8; PART];
+    let result = stdin::read(input, &mut part);
     take(text, len, result, &part)
 }
 
 // Reads to the input's end. A proved loop has to end, and nothing says that an input does. So it counts down from a
 // number that no run uses up.
-pub fn receive(text: &mut [u8]) -> AfterRead
+pub fn receive(input: Stdin, text: &mut [u8]) -> AfterRead
     ensures { Reads text.old text.new result }
 {
     let mut after = AfterRead {
@@ -66,7 +70,7 @@ pub fn receive(text: &mut [u8]) -> AfterRead
     };
     let mut turns = u64::MAX;
     while 0 < turns {
-        after = read(text, after.len);
+        after = read(input, text, after.len);
         let next = after.next;
         if !stdin::is_more(next) {
             return after;

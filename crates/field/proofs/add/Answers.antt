@@ -1,5 +1,4 @@
 -- The sum, once reduced, is the remainder.
-use borrow.Author.Rules.{rules}
 use native.Mathlib.Omega.{arith}
 use Rattle.field.specs.FieldLaws.{represents_sum}
 use Rattle.field.proofs.add.Goals as goal

@@ -1,6 +1,5 @@
 use mathlib.Core.Path.{refl}
 use native.Mathlib.Omega.{arith}
-use borrow.Author.Rules.{rules}
 use Rattle.field.specs.FieldLaws.{remainder_below, quotient_bounds, descent_low, descent_high}
 use Rattle.field.proofs.descend.Goals as goal
 

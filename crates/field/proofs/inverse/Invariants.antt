@@ -1,6 +1,4 @@
-use borrow.Author.Rules.{rules}
 use Rattle.field.specs.Field.{DescentLoop}
-use Rattle.field.specs.FieldLaws.{descent_start, descent_step, descent_end, represents_inverse_zero}
 use Rattle.field.proofs.inverse.Given as goal
 
 abbrev pub invariant-loop-d : goal.invariant-loop-d

@@ -1,10 +1,8 @@
 -- The part is built low before high; what is left is a join, and the last two needs are told by `gate_joins` from both
 -- answers.
-use Prim.Native.Nat.{◌-◌, ℕ, ◌<◌}
 use borrow.Author.Rules.{rules}
 use Rattle.diagram.specs.BuildLaws.{bits_below_low, bits_below_high, bits_below_next, gate_leaf, gate_low_full}
 use Rattle.diagram.specs.BuildLaws.{gate_sound, gate_high_full, gate_joins}
-use Rattle.diagram.specs.Tensor.{index_count}
 use Rattle.diagram.proofs.build.+part.Goals as goal
 
 pub returns-then-k-eq-INDICES : goal.returns-then-k-eq-INDICES

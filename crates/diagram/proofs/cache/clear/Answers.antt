@@ -1,7 +1,5 @@
 use Rattle.diagram.specs.CacheLaws.{clear_start, clear_on, clear_end}
-use Rattle.diagram.specs.Cache.{ClearLoop}
-use lib.ListN.{length, length-set}
-use Prim.Native.Nat.{◌-◌}
+use lib.ListN.{length-set}
 use borrow.Author.Rules.{rules}
 use native.Mathlib.Omega.{arith}
 use Rattle.diagram.proofs.cache.clear.Goals as goal

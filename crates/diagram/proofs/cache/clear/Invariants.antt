@@ -1,9 +1,6 @@
-use Rattle.diagram.specs.CacheLaws.{clear_start, clear_on, clear_end}
 use Rattle.diagram.specs.Cache.{ClearLoop}
-use lib.ListN.{length, length-set}
+use lib.ListN.{length}
 use Prim.Native.Nat.{◌-◌}
-use borrow.Author.Rules.{rules}
-use native.Mathlib.Omega.{arith}
 use Rattle.diagram.proofs.cache.clear.Given as goal
 
 abbrev pub invariant-loop-i : goal.invariant-loop-i

@@ -1,6 +1,5 @@
 use native.Mathlib.Omega.{arith}
 use Rattle.diagram.specs.CacheLaws.{entry_found}
-use borrow.Author.Rules.{rules}
 use Rattle.diagram.proofs.cache.lookup.Goals as goal
 
 pub returns : goal.returns

@@ -1,4 +1,3 @@
-use borrow.Author.Rules.{rules}
 use Rattle.diagram.specs.CollectLaws.{sound_children, sweep_rollback, collect_ensures}
 use Rattle.diagram.proofs.collect.collect.Goals as goal
 

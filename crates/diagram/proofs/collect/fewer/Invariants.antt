@@ -1,5 +1,4 @@
 use Prim.Native.Nat.{◌≤◌}
-use native.Mathlib.Omega.{arith}
 use Rattle.diagram.proofs.collect.fewer.Given as goal
 
 abbrev pub invariant-loop-b : goal.invariant-loop-b

@@ -1,5 +1,4 @@
 use native.Mathlib.Omega.{arith}
-use borrow.Author.Rules.{rules}
 use Rattle.diagram.specs.CollectLaws.{sweep_ensures}
 use Rattle.diagram.proofs.collect.sweep.Goals as goal
 

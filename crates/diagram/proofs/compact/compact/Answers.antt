@@ -1,10 +1,7 @@
-use Rattle.diagram.specs.Compact.{CompactLoop}
 use Rattle.diagram.specs.CompactLaws.{compact_start, ahead_children, compact_below}
-use Rattle.diagram.specs.Node.{node_at}
-use Rattle.diagram.specs.Fields.{field}
 use lib.ListN.{length}
 use native.Mathlib.Omega.{arith}
-use Prim.Native.Nat.{◌-◌, ◌*◌, ◌≤◌}
+use Prim.Native.Nat.{◌*◌, ◌≤◌}
 use mathlib.Core.Path.{◌≡◌, refl, ◌∙◌}
 use Rattle.diagram.proofs.compact.compact.Goals as goal
 

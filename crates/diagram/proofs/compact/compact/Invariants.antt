@@ -1,11 +1,9 @@
 use Rattle.diagram.specs.Compact.{CompactLoop}
-use Rattle.diagram.specs.CompactLaws.{compact_start, ahead_children, compact_below}
 use Rattle.diagram.specs.Node.{node_at}
 use Rattle.diagram.specs.Fields.{field}
 use lib.ListN.{length}
-use native.Mathlib.Omega.{arith}
-use Prim.Native.Nat.{◌-◌, ◌*◌, ◌≤◌}
-use mathlib.Core.Path.{◌≡◌, refl, ◌∙◌}
+use Prim.Native.Nat.{◌-◌}
+use mathlib.Core.Path.{◌≡◌}
 use Rattle.diagram.proofs.compact.compact.Given as goal
 
 abbrev pub invariant-loop-m : goal.invariant-loop-m

@@ -1,7 +1,6 @@
 use Rattle.diagram.specs.CompactLaws.{compact_dead, compact_live}
 use native.Mathlib.Omega.{arith}
 use mathlib.Core.Path.{sym, ◌∙◌}
-use borrow.Author.Rules.{rules}
 use Rattle.diagram.proofs.compact.compact_step.Goals as goal
 
 pub returns-then-mark-eq0 : goal.returns-then-mark-eq0

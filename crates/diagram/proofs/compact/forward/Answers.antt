@@ -1,7 +1,6 @@
 use Rattle.diagram.specs.CompactLaws.{forward_zero, forward_node}
 use native.Mathlib.Omega.{arith}
 use mathlib.Core.Path.{sym, ◌∙◌}
-use borrow.Author.Rules.{rules}
 use Rattle.diagram.proofs.compact.forward.Goals as goal
 
 pub returns-then-c-eq0 : goal.returns-then-c-eq0

@@ -1,9 +1,6 @@
-use Prim.Native.Nat.{◌-◌, ◌≤◌}
-use mathlib.Core.Path.{◌≡◌, ap, sym, ◌∙◌}
+use mathlib.Core.Path.{ap, sym, ◌∙◌}
 use native.Mathlib.Omega.{arith}
-use borrow.Author.Rules.{rules}
 use borrow.Author.Tests.{eq-eqb}
-use Rattle.diagram.specs.Compact.{forward, renumber_first}
 use Rattle.diagram.specs.RegistersLaws.{register_valid}
 use Rattle.diagram.specs.CompactRenumberLaws.{renumber_start, renumber_on, renumber_ahead, renumber_end}
 use Rattle.diagram.specs.declared.registers.Register.{Register}

@@ -1,5 +1,4 @@
 use Rattle.diagram.specs.CompactLaws.{shift_by}
-use borrow.Author.Rules.{rules}
 use Rattle.diagram.proofs.compact.shift.Goals as goal
 
 pub forward-low-requires : goal.forward-low-requires

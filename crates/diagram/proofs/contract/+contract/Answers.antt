@@ -1,10 +1,8 @@
 use borrow.Author.Rules.{rules}
 use native.Mathlib.Omega.{arith}
-use Prim.Native.Nat.{◌+◌, ◌*◌}
 use Rattle.diagram.specs.CacheLaws.{lookup_is}
 use Rattle.diagram.specs.OperationLaws.{cached_fits, cached_hit, cached_kept}
 use Rattle.diagram.specs.OperationHalvesLaws.{inside, fixable_left, fixable_right, part_ready, part_less}
-use Rattle.diagram.specs.Operation.{edges_measure}
 use Rattle.diagram.specs.ContractLaws.{contract_left, contract_right, constant_right, constant_left}
 use Rattle.diagram.specs.ContractLaws.{contract_reduced_measure, contract_reduced_ready, contract_reduced_some}
 use Rattle.diagram.specs.ContractLaws.{contract_times}
@@ -12,7 +10,6 @@ use Rattle.diagram.specs.ContractLaws.{contract_key_fits, contract_key_step, con
 use Rattle.diagram.specs.ContractLaws.{contract_low_full, contract_high_ready, contract_measure}
 use Rattle.diagram.specs.ContractLaws.{contract_low_refines}
 use Rattle.diagram.specs.ContractLaws.{contract_high_full, contract_combine_requires, contract_high_refines}
-use Prim.Native.Nat.{ℕ, ◌<◌}
 use Rattle.diagram.proofs.contract.+contract.Goals as goal
 use Rattle.diagram.proofs.contract.+contract.Lts-contract.{then-rest-eq0+else-y-eq0+else-x-eq0, else-rest-eq0}
 

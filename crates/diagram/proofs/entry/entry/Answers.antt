@@ -1,16 +1,12 @@
 -- The gates on two qubits by their tables; the others are those that are left.
 use mathlib.Core.Path.{◌≡◌, refl}
-use mathlib.Core.List.{List, [], ◌∷◌}
 use Prim.Native.Nat.{ℕ}
-use types.Run.{OneOf, miss}
-use denote.Enum.Declared.{tag_of}
 use Rattle.diagram.specs.Gate.{shape, first_qubit}
 use Rattle.diagram.specs.GateLaws.{cx_table, cz_table, sw_table}
 use Rattle.diagram.specs.EntryLaws.{entry_single, entry_pair}
 use Rattle.diagram.specs.declared.gate.Gate.{Gate}
 use Rattle.diagram.specs.declared.gate.Gate.TheVariants as gate
 use Rattle.diagram.specs.declared.gate.Shape.TheVariants.{One}
-use Rattle.diagram.specs.contracts.gate.Gate.{the_type}
 use borrow.Author.Rules.{rules}
 use Rattle.diagram.proofs.entry.entry.Goals as goal
 

@@ -1,4 +1,3 @@
-use borrow.Author.Rules.{rules}
 use Rattle.diagram.proofs.entry.single.Goals as goal
 
 pub returns : goal.returns

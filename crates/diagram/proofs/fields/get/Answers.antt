@@ -1,6 +1,5 @@
 use Rattle.diagram.specs.Fields.{field}
 use native.Mathlib.Omega.{arith}
-use borrow.Author.Rules.{rules}
 use Rattle.diagram.proofs.fields.get.Goals as goal
 
 pub returns : goal.returns

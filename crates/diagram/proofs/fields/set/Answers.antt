@@ -1,7 +1,6 @@
 use Rattle.diagram.specs.Fields.{put_field}
 use lib.ListN.{length-set}
 use native.Mathlib.Omega.{arith}
-use borrow.Author.Rules.{rules}
 use Rattle.diagram.proofs.fields.set.Goals as goal
 
 pub bounds-s-k-2 : goal.bounds-s-k-2

@@ -1,5 +1,3 @@
-use Prim.Native.Nat.{◌≤◌, ◌-◌}
-use Rattle.diagram.specs.Insert.{ClearEnsures}
 use Rattle.diagram.specs.InsertLaws.{clear_none, clear_more, clear_all}
 use borrow.Author.Rules.{rules}
 use Rattle.diagram.proofs.insert.clear.Goals as goal

@@ -1,7 +1,5 @@
 use Prim.Native.Nat.{◌≤◌, ◌-◌}
 use Rattle.diagram.specs.Insert.{ClearEnsures}
-use Rattle.diagram.specs.InsertLaws.{clear_none, clear_more, clear_all}
-use borrow.Author.Rules.{rules}
 use Rattle.diagram.proofs.insert.clear.Given as goal
 
 abbrev pub invariant-loop-b : goal.invariant-loop-b

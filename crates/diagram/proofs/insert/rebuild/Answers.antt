@@ -1,6 +1,4 @@
 -- The heads are emptied, and the nodes linked in rising order, as they were made.
-use Prim.Native.Nat.{◌-◌}
-use Rattle.diagram.specs.Insert.{RebuildLoop}
 use Rattle.diagram.specs.InsertLaws.{rebuild_start, rebuild_on, rebuild_end}
 use borrow.Author.Rules.{rules}
 use Rattle.diagram.proofs.insert.rebuild.Goals as goal

@@ -1,7 +1,5 @@
 use Prim.Native.Nat.{◌-◌}
 use Rattle.diagram.specs.Insert.{RebuildLoop}
-use Rattle.diagram.specs.InsertLaws.{rebuild_start, rebuild_on, rebuild_end}
-use borrow.Author.Rules.{rules}
 use Rattle.diagram.proofs.insert.rebuild.Given as goal
 
 abbrev pub invariant-loop-m : goal.invariant-loop-m

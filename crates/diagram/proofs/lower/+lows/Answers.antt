@@ -1,9 +1,7 @@
 -- The low part, then the high part, joined where the top goes; a weight taken out first, and a remembered answer used.
 use borrow.Author.Rules.{rules}
 use native.Mathlib.Omega.{arith}
-use Prim.Native.Nat.{ℕ, ◌+◌, ◌*◌, ◌<◌}
 use Rattle.diagram.specs.CacheLaws.{lookup_is}
-use Rattle.diagram.specs.Operation.{edges_measure}
 use Rattle.diagram.specs.OperationLaws.{cached_fits, cached_hit, cached_kept}
 use Rattle.diagram.specs.OperationHalvesLaws.{fixable_left, part_ready, part_less}
 use Rattle.diagram.specs.LowerLaws.{lows_part, lows_none, lows_reduced_ready, lows_reduced, lows_reduced_measure}

@@ -1,5 +1,4 @@
 use Rattle.diagram.specs.MarkLaws.{mark_ensures}
-use borrow.Author.Rules.{rules}
 use Rattle.diagram.proofs.mark.mark.Goals as goal
 
 pub returns : goal.returns

@@ -1,5 +1,4 @@
 use Rattle.diagram.specs.MarkLaws.{children_of_unmarked, children_of_marked}
-use borrow.Author.Rules.{rules}
 use Rattle.diagram.proofs.mark.mark_children.Goals as goal
 
 pub returns-then-get-eq0 : goal.returns-then-get-eq0

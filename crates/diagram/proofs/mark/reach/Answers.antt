@@ -1,4 +1,3 @@
-use borrow.Author.Rules.{rules}
 use native.Mathlib.Omega.{arith}
 use Rattle.diagram.specs.MarkLaws.{exactly_none, reach_ensures}
 use Rattle.diagram.proofs.mark.reach.Goals as goal

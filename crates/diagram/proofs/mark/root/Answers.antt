@@ -1,4 +1,3 @@
-use borrow.Author.Rules.{rules}
 use borrow.Author.Tests.{eq-eqb, ne_eqb}
 use Rattle.diagram.specs.MarkLaws.{root_empty, root_filled}
 use Rattle.diagram.proofs.mark.root.Goals as goal

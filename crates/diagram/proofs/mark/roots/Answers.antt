@@ -1,11 +1,7 @@
-use Prim.Native.Nat.{◌-◌, ◌≤◌}
-use mathlib.Core.Path.{◌≡◌, refl, ◌∙◌}
+use mathlib.Core.Path.{refl, ◌∙◌}
 use native.Mathlib.Omega.{arith}
-use borrow.Author.Rules.{rules}
-use lib.ListN.{length}
 use borrow.Author.Tests.{eq-eqb}
 use Rattle.diagram.specs.MarkLaws.{roots_start, roots_on, roots_end}
-use Rattle.diagram.specs.Mark.{RootsLoop}
 use Rattle.diagram.specs.RegistersLaws.{register_valid}
 use Rattle.diagram.proofs.mark.roots.Goals as goal
 

@@ -1,10 +1,5 @@
-use Rattle.diagram.specs.Mark.{SpreadLoop}
 use Rattle.diagram.specs.MarkLaws.{spread_start, spread_end, children_within}
-use Rattle.diagram.specs.Node.{node_at}
-use Rattle.diagram.specs.Fields.{field}
-use lib.ListN.{length}
 use native.Mathlib.Omega.{arith}
-use Prim.Native.Nat.{◌-◌, ◌≤◌}
 use mathlib.Core.Path.{◌≡◌, refl, ◌∙◌}
 use Rattle.diagram.proofs.mark.spread.Goals as goal
 

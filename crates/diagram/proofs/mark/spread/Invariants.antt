@@ -1,11 +1,9 @@
 use Rattle.diagram.specs.Mark.{SpreadLoop}
-use Rattle.diagram.specs.MarkLaws.{spread_start, spread_end, children_within}
 use Rattle.diagram.specs.Node.{node_at}
 use Rattle.diagram.specs.Fields.{field}
 use lib.ListN.{length}
-use native.Mathlib.Omega.{arith}
 use Prim.Native.Nat.{◌-◌, ◌≤◌}
-use mathlib.Core.Path.{◌≡◌, refl, ◌∙◌}
+use mathlib.Core.Path.{◌≡◌}
 use Rattle.diagram.proofs.mark.spread.Given as goal
 
 abbrev pub invariant-loop-n : goal.invariant-loop-n

@@ -1,10 +1,8 @@
-use Prim.Native.Nat.{◌-◌, ◌+◌, ◌*◌, ◌≤◌}
+use Prim.Native.Nat.{◌+◌, ◌*◌, ◌≤◌}
 use mathlib.Core.Path.{◌≡◌, refl, ◌∙◌}
 use native.Mathlib.Omega.{arith}
-use borrow.Author.Rules.{rules}
 use lib.ListN.{length}
 use Rattle.diagram.specs.MarkLaws.{unmark_start, unmark_on}
-use Rattle.diagram.specs.Mark.{NoneMarked}
 use Rattle.diagram.proofs.mark.unmark.Goals as goal
 
 pub loop-m-init : goal.loop-m-init

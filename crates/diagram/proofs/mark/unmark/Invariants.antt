@@ -1,9 +1,6 @@
-use Prim.Native.Nat.{◌-◌, ◌+◌, ◌*◌, ◌≤◌}
-use mathlib.Core.Path.{◌≡◌, refl, ◌∙◌}
-use native.Mathlib.Omega.{arith}
-use borrow.Author.Rules.{rules}
+use Prim.Native.Nat.{◌-◌, ◌≤◌}
+use mathlib.Core.Path.{◌≡◌}
 use lib.ListN.{length}
-use Rattle.diagram.specs.MarkLaws.{unmark_start, unmark_on}
 use Rattle.diagram.specs.Mark.{NoneMarked}
 use Rattle.diagram.proofs.mark.unmark.Given as goal
 

@@ -1,6 +1,5 @@
 use native.Mathlib.Omega.{arith}
 use Rattle.diagram.specs.MaskLaws.{below_is, below_some}
-use borrow.Author.Rules.{rules}
 use Rattle.diagram.proofs.mask.below.Goals as goal
 
 pub nonzero_rem-result : goal.nonzero_rem-result

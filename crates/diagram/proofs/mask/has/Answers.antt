@@ -1,6 +1,5 @@
 use Rattle.diagram.specs.MaskLaws.{bits_at}
 use mathlib.Core.Path.{sym}
-use borrow.Author.Rules.{rules}
 use Rattle.diagram.proofs.mask.has.Goals as goal
 
 pub returns : goal.returns

@@ -1,6 +1,5 @@
 -- The six fields, from the last to the first.
 use Rattle.diagram.specs.NodeLaws.{written_by}
-use borrow.Author.Rules.{rules}
 use Rattle.diagram.proofs.node.write.Goals as goal
 
 pub returns : goal.returns

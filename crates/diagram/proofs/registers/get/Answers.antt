@@ -1,4 +1,3 @@
-use borrow.Author.Rules.{rules}
 use borrow.Author.Tests.{eq-eqb, ne_eqb}
 use Rattle.diagram.specs.Registers.{held_by}
 use Rattle.diagram.proofs.registers.get.Goals as goal

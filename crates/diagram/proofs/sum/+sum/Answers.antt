@@ -1,15 +1,12 @@
 use borrow.Author.Rules.{rules}
 use native.Mathlib.Omega.{arith}
-use Prim.Native.Nat.{◌+◌, ◌*◌}
 use Rattle.diagram.specs.CacheLaws.{lookup_is}
 use Rattle.diagram.specs.OperationLaws.{cached_fits, cached_hit, cached_kept}
 use Rattle.diagram.specs.OperationHalvesLaws.{inside, fixable_left, fixable_right, part_ready, part_less}
-use Rattle.diagram.specs.Operation.{edges_measure}
 use Rattle.diagram.specs.SumLaws.{sum_left, sum_right, sum_one, sum_reduced_measure, sum_reduced_ready}
 use Rattle.diagram.specs.SumLaws.{sum_reduced, sum_times, sum_key_fits, sum_key_step, sum_known, sum_some}
 use Rattle.diagram.specs.SumLaws.{sum_low_full, sum_high_ready, sum_measure, sum_low_refines, sum_high_full}
 use Rattle.diagram.specs.SumLaws.{sum_joinable, sum_high_refines}
-use Prim.Native.Nat.{ℕ, ◌<◌}
 use Rattle.diagram.proofs.sum.+sum.Goals as goal
 
 pub sum-returns-then-v-eq0 : goal.sum-returns-then-v-eq0

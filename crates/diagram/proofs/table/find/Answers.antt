@@ -1,5 +1,4 @@
 -- The walk along x's chain: numbers fall along it, and no node above the place reached is x.
-use Rattle.diagram.specs.Table.{FindLoop}
 use Rattle.diagram.specs.TableLaws.{walk_start, walk_on, walk_less, walk_found, walk_end}
 use borrow.Author.Rules.{rules}
 use Rattle.diagram.proofs.table.find.Goals as goal

@@ -1,5 +1,4 @@
 -- The qubits after q first; then q's three joins.
-use Prim.Native.Nat.{◌-◌, ℕ, ◌<◌}
 use borrow.Author.Rules.{rules}
 use Rattle.diagram.specs.UnitLaws.{unit_leaf, unit_full, unit_ready, unit_refines}
 use Rattle.diagram.proofs.unit.+from.Goals as goal

@@ -1,8 +1,6 @@
 use Prim.Native.Nat.{◌-◌}
 use Rattle.diagram.specs.Store.{level_of}
 use Rattle.diagram.specs.Value.{ValueLoop}
-use Rattle.diagram.specs.ValueLaws.{value_start, value_index, value_fixable, value_on, value_less, value_end}
-use borrow.Author.Rules.{rules}
 use Rattle.diagram.specs.Tensor.{index_count}
 use Rattle.diagram.proofs.value.value.Given as goal
 

@@ -1,5 +1,4 @@
 -- A word of fewer than 8 bytes, at most 8 digits and LF fit in 16 bytes.
-use borrow.Author.Rules.{rules}
 use Rattle.text.specs.AnswerLaws.{labelled_label, labelled_room, labelled_wrote}
 use Rattle.text.proofs.answer.pair.Goals as goal
 

@@ -1,5 +1,4 @@
 -- Each arm prints what the definition prints in that case.
-use borrow.Author.Rules.{rules}
 use native.Mathlib.Omega.{arith}
 use Rattle.text.specs.Answer.{printed, line_of_fields, labelled_line}
 use Rattle.text.specs.AnswerLaws.{weight_small}

@@ -1,8 +1,4 @@
 -- The fields from the left: each adds its number.
-use borrow.Author.Rules.{rules}
-use lib.ListN.{length}
-use Prim.Native.Nat.{◌-◌}
-use Rattle.text.specs.Args.{ArgsLoop}
 use Rattle.text.specs.ArgsLaws.{args_loop_start, args_loop_next, args_loop_end}
 use Rattle.text.proofs.args.after.Goals as goal
 

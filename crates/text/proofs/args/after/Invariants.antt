@@ -1,8 +1,6 @@
-use borrow.Author.Rules.{rules}
 use lib.ListN.{length}
 use Prim.Native.Nat.{◌-◌}
 use Rattle.text.specs.Args.{ArgsLoop}
-use Rattle.text.specs.ArgsLaws.{args_loop_start, args_loop_next, args_loop_end}
 use Rattle.text.proofs.args.after.Given as goal
 
 abbrev pub invariant-loop-at : goal.invariant-loop-at

@@ -1,4 +1,3 @@
-use borrow.Author.Rules.{rules}
 use Rattle.text.proofs.args.push.Goals as goal
 
 pub returns-in-None : goal.returns-in-None

@@ -1,4 +1,3 @@
-use borrow.Author.Rules.{rules}
 use Rattle.text.proofs.args.push_number.Goals as goal
 
 pub returns-in-Of : goal.returns-in-Of

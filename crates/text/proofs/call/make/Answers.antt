@@ -1,5 +1,4 @@
 -- One function for each word.
-use borrow.Author.Rules.{rules}
 use Rattle.text.specs.Call.{call_of}
 use Rattle.text.proofs.call.make.Goals as goal
 

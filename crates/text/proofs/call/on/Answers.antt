@@ -1,4 +1,3 @@
-use borrow.Author.Rules.{rules}
 use Rattle.text.specs.Call.{call_of}
 use Rattle.text.specs.Args.{by_count}
 use Rattle.text.proofs.Arity.{not_one}

@@ -1,5 +1,4 @@
 -- The header, and then the gate lines.
-use borrow.Author.Rules.{rules}
 use Rattle.text.specs.CheckTextLaws.{checked_none, checked_bad, checked_of_lem}
 use Rattle.text.proofs.check.check.Goals as goal
 

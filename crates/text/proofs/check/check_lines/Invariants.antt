@@ -1,10 +1,6 @@
-use borrow.Author.Rules.{rules}
-use mathlib.Core.Path.{◌∙◌}
 use Prim.Native.Nat.{◌+◌, ◌-◌}
 use lib.ListN.{length}
 use Rattle.text.specs.Check.{CheckLoop}
-use Rattle.text.specs.CheckTextLaws.{check_loop_start, check_loop_next, check_loop_fault, check_loop_end}
-use Rattle.text.specs.CheckTextLaws.{at_end_good, at_end_none}
 use Rattle.text.proofs.check.check_lines.Given as goal
 
 abbrev pub invariant-loop-a : goal.invariant-loop-a

@@ -1,5 +1,4 @@
 -- A gate line is neither `=` nor faulty.
-use borrow.Author.Rules.{rules}
 use Rattle.text.specs.CheckLaws.{gate_read}
 use Rattle.text.proofs.check.gate.Goals as goal
 

@@ -1,4 +1,3 @@
-use borrow.Author.Rules.{rules}
 use Rattle.text.specs.Args.{by_count}
 use Rattle.text.specs.Check.{header_numbers}
 use Rattle.text.specs.CheckLaws.{header_yes, header_below, header_above}

@@ -1,5 +1,4 @@
 -- `=`, or a name before single digits.
-use borrow.Author.Rules.{rules}
 use mathlib.Core.Path.{sym, ◌∙◌}
 use Rattle.text.specs.CheckLaws.{item_read, item_parting, item_gate}
 use Rattle.text.proofs.check.read.Goals as goal

@@ -1,4 +1,3 @@
-use borrow.Author.Rules.{rules}
 use mathlib.Core.Path.{sym, ◌∙◌}
 use Rattle.text.specs.CheckLaws.{header_lines, header_other}
 use Rattle.text.proofs.check.read_header.Goals as goal

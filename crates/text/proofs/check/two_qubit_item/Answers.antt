@@ -1,4 +1,3 @@
-use borrow.Author.Rules.{rules}
 use Rattle.text.proofs.check.two_qubit_item.Goals as goal
 
 pub returns-in-Unknown : goal.returns-in-Unknown

@@ -1,5 +1,4 @@
 -- The count of qubits decides between the two kinds of gate; any other count is malformed.
-use borrow.Author.Rules.{rules}
 use Rattle.text.specs.Args.{by_count}
 use Rattle.text.proofs.Arity.{not_one_or_two}
 use Rattle.text.proofs.gate.make.Goals as goal

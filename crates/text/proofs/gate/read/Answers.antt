@@ -1,5 +1,4 @@
 -- A line of two or three fields is malformed; else the register, the name and the qubits are parts of it.
-use borrow.Author.Rules.{rules}
 use Rattle.text.specs.GateLaws.{gate_none, gate_short, gate_fields}
 use Rattle.text.proofs.gate.read.Goals as goal
 

@@ -1,4 +1,3 @@
-use borrow.Author.Rules.{rules}
 use Rattle.text.proofs.gate.two_qubit_call.Goals as goal
 
 pub returns-in-Unknown : goal.returns-in-Unknown

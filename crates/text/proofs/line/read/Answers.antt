@@ -1,5 +1,4 @@
 -- The first field is `gate`, or else a word before numbers.
-use borrow.Author.Rules.{rules}
 use mathlib.Core.Path.{sym, ◌∙◌}
 use Rattle.text.specs.LineLaws.{line_gate, line_other, line_read}
 use Rattle.text.proofs.line.read.Goals as goal

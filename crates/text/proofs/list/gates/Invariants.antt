@@ -1,9 +1,6 @@
-use borrow.Author.Rules.{rules}
 use mathlib.Core.Path.{◌≡◌}
 use Prim.Native.Nat.{◌-◌}
 use lib.ListN.{length}
-use Rattle.text.specs.ListLaws.{gates_loop_start, gates_loop_gate, gates_loop_next, gates_loop_refused}
-use Rattle.text.specs.ListLaws.{gates_loop_end}
 use Rattle.text.specs.List.{gate_list, GatesLoop}
 use Rattle.text.proofs.list.gates.Given as goal
 

@@ -1,4 +1,3 @@
-use borrow.Author.Rules.{rules}
 use Rattle.text.specs.ListLaws.{open_ensures}
 use Rattle.text.proofs.list.open.Goals as goal
 

@@ -1,4 +1,3 @@
-use borrow.Author.Rules.{rules}
 use Rattle.text.specs.Names.{choose_name}
 use Rattle.text.proofs.names.choose.Goals as goal
 

@@ -1,5 +1,4 @@
 -- The eight choices, from the outermost in.
-use borrow.Author.Rules.{rules}
 use Rattle.text.specs.Names.{one_qubit}
 use Rattle.text.proofs.names.one_qubit.Goals as goal
 

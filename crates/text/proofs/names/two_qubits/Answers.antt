@@ -1,5 +1,4 @@
 -- The three choices, from the outermost in.
-use borrow.Author.Rules.{rules}
 use Rattle.text.specs.Names.{two_qubits}
 use Rattle.text.proofs.names.two_qubits.Goals as goal
 

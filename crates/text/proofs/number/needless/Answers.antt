@@ -1,4 +1,3 @@
-use borrow.Author.Rules.{rules}
 use Rattle.text.specs.NumberLaws.{short_plain, first_zero}
 use Rattle.text.proofs.number.needless.Goals as goal
 

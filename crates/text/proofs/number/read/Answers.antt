@@ -1,5 +1,4 @@
 -- 1 to `most` digits, no needless leading zero: one return for each way to fail.
-use borrow.Author.Rules.{rules}
 use mathlib.Core.Path.{sym, ◌∙◌}
 use Rattle.text.specs.NumberLaws.{number_none, number_long, number_needless, number_plain}
 use Rattle.text.proofs.number.read.Goals as goal

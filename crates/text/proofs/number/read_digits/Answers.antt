@@ -1,9 +1,5 @@
 -- Up to eight digits make a number below 10^8, so nothing wraps.
-use borrow.Author.Rules.{rules}
 use native.Mathlib.Omega.{arith}
-use lib.ListN.{length}
-use Prim.Native.Nat.{◌-◌}
-use Rattle.text.specs.Number.{ReadDigitsLoop}
 use Rattle.text.specs.NumberLaws.{read_digits_loop_start, read_digits_loop_next, read_digits_loop_small}
 use Rattle.text.specs.NumberLaws.{read_digits_loop_below}
 use Rattle.text.specs.NumberLaws.{read_digits_loop_above, read_digits_loop_end}

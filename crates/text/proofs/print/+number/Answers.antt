@@ -1,5 +1,4 @@
 -- The digits but the last are put by the call on n / 10, which is less than n; then the last one.
-use Prim.Native.Nat.{ℕ, ◌<◌}
 use native.Mathlib.Omega.{arith}
 use lib.ListN.{length-set}
 use Rattle.text.specs.PrintLaws.{digit_room, digit_put, digits_room, last_room, last_put}

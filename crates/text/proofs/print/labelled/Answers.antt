@@ -1,4 +1,3 @@
-use borrow.Author.Rules.{rules}
 use Rattle.text.specs.PrintLaws.{wrote_then, wrote_room}
 use Rattle.text.proofs.print.labelled.Goals as goal
 

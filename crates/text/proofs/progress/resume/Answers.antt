@@ -1,8 +1,4 @@
 use borrow.Author.Rules.{rules}
-use mathlib.Core.Path.{◌≡◌}
-use Prim.Native.Nat.{◌+◌, ◌-◌}
-use lib.ListN.{length}
-use Rattle.text.specs.Progress.{ResumeLoop}
 use Rattle.text.specs.ProgressLaws.{resume_line_less, resume_loop_start, resume_loop_line, resume_loop_next}
 use Rattle.text.specs.ProgressLaws.{resume_loop_limit, resume_loop_stop, resume_loop_end}
 use Rattle.text.proofs.progress.resume.Goals as goal

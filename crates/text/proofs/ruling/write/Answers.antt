@@ -1,5 +1,4 @@
 -- `same`, `factor` and `differ` are a session's answers.
-use borrow.Author.Rules.{rules}
 use mathlib.Core.Path.{refl}
 use native.Mathlib.Omega.{arith}
 use Rattle.text.specs.Ruling.{printed_ruling}

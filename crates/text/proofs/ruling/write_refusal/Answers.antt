@@ -1,5 +1,4 @@
 -- `no`, at most 2 digits, at most 20 digits, two tabs and LF fit in 32 bytes.
-use borrow.Author.Rules.{rules}
 use Rattle.text.specs.RulingLaws.{number_room, line_room_lem, end_room, refusal_wrote}
 use Rattle.text.proofs.ruling.write_refusal.Goals as goal
 

@@ -1,7 +1,3 @@
-use borrow.Author.Rules.{rules}
-use lib.ListN.{length}
-use Prim.Native.Nat.{◌-◌}
-use Rattle.text.specs.Split.{EndLoop}
 use Rattle.text.specs.SplitLaws.{end_loop_start, end_loop_next, end_loop_here, end_loop_end}
 use Rattle.text.proofs.split.end.Goals as goal
 

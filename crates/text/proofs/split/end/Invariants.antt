@@ -1,8 +1,6 @@
-use borrow.Author.Rules.{rules}
 use lib.ListN.{length}
 use Prim.Native.Nat.{◌-◌}
 use Rattle.text.specs.Split.{EndLoop}
-use Rattle.text.specs.SplitLaws.{end_loop_start, end_loop_next, end_loop_here, end_loop_end}
 use Rattle.text.proofs.split.end.Given as goal
 
 abbrev pub invariant-loop-i : goal.invariant-loop-i

@@ -1,5 +1,4 @@
 -- The eleven choices, from the outermost in.
-use borrow.Author.Rules.{rules}
 use Rattle.text.specs.Words.{word_of}
 use Rattle.text.proofs.words.read.Goals as goal
 

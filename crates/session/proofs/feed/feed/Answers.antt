@@ -1,0 +1,12 @@
+use borrow.Author.Rules.{rules}
+use Rattle.session.specs.FeedLaws.{feed_start, feed_step, feed_end}
+use Rattle.session.proofs.feed.feed.Goals as goal
+
+pub loop-i-init : goal.loop-i-init
+loop-i-init c = (search (rules, feed_start), search rules)
+
+pub loop-i-preserved : goal.loop-i-preserved
+loop-i-preserved c = (search (rules, feed_step), search rules)
+
+pub returns : goal.returns
+returns c = search (rules, feed_end)

@@ -1,0 +1,6 @@
+use borrow.Author.Rules.{rules}
+use Rattle.session.specs.InputLaws.{input_start}
+use Rattle.session.proofs.run.Goals as goal
+
+pub session-requires : goal.session-requires
+session-requires c = search (rules, input_start)
