@@ -1,6 +1,6 @@
 /*
  * The equivalence engine for quantum gate lists, for C99 and C++11 on x86-64. Link libjorehyi.a, which
- * `rt staticlib jorehyi` writes.
+ * `tools/build jorehyi` writes.
  *
  * jorehyi_session answers the lines of a session; jorehyi_verdict writes the verdict on two gate lists. Both are
  * proved, for every text, store, cache and output of any length, 0 included, to answer as the definitions say: which

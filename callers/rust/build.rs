@@ -16,7 +16,7 @@ fn main() {
     let archive = folder.join("libjorehyi.a");
     if !archive.exists() {
         println!(
-            "cargo:warning={} is missing: `rt staticlib jorehyi` writes it",
+            "cargo:warning={} is missing: `tools/build jorehyi` writes it",
             archive.display()
         );
     }

@@ -26,5 +26,7 @@ pub record NormalNode {d : ℕ} (ts : Set d) (m : ℕ) (x : Node) : Type 0 where
 -- numbers
 pub record Canonical (d : ℕ) (xs : List Node) : Type 0 where
   pub each : (n : ℕ) → 1 ≤ n → n ≤ length xs → NormalNode (tensors d xs) (n - 1) (node_in d xs n)
-  pub meaning : (n : ℕ) → 1 ≤ n → n ≤ length xs → tensor_at (tensors d xs) n ≡ node_tensor (tensors d xs) (node_in d xs n)
-  pub unique : (n m : ℕ) → n ≤ length xs → m ≤ length xs → tensor_at (tensors d xs) n ≡ tensor_at (tensors d xs) m → n ≡ m
+  pub meaning : (n : ℕ) → 1 ≤ n → n ≤ length xs
+      → tensor_at (tensors d xs) n ≡ node_tensor (tensors d xs) (node_in d xs n)
+  pub unique : (n m : ℕ) → n ≤ length xs → m ≤ length xs → tensor_at (tensors d xs) n ≡ tensor_at (tensors d xs) m
+      → n ≡ m

@@ -115,7 +115,8 @@ module _ {d : ℕ} (ts us : Set d) (g : ℕ → ℕ) (a : ℕ → ℕ) (m k : �
     where
       go : (b : Bool) → occupied r ≡ b → AllValid m (cond b (r.edge ∷ edges_of rs) (edges_of rs))
           → AllMarked a (cond b (r.edge ∷ edges_of rs) (edges_of rs))
-          → (AllValid m (edges_of rs) → AllMarked a (edges_of rs) → holds_all us (renumber_registers g rs) ≡ holds_all ts rs)
+          → (AllValid m (edges_of rs) → AllMarked a (edges_of rs)
+          → holds_all us (renumber_registers g rs) ≡ holds_all ts rs)
           → holds us (renumber_register g r) ∷ holds_all us (renumber_registers g rs) ≡ holds ts r ∷ holds_all ts rs
       go true q v p ih =
           rw q (ap₂ (λ T l. some (scale (to_weight r.edge.weight) T) ∷ l)

@@ -152,7 +152,8 @@ module _ (d : ℕ) (f : ℕ → Node) (count : ℕ) (a : ℕ → ℕ) (canonical
         rw (survivors_live a f m live) record {
           long = length-append (survivors a f m) (x' ∷ []) ∙ rw (new_number_live a m live) (omega (arith, s.long));
           kept = λ n p h. rw (tensors_more d (survivors a f m) x') (elim (ℕ_discrete n (suc m)) [
-            | yes e ↦ rw (e, new_number_live a m live) (at_new us (node_tensor us x') (suc (new_number a m)) (ap suc last)
+            | yes e ↦ rw (e, new_number_live a m live)
+                (at_new us (node_tensor us x') (suc (new_number a m)) (ap suc last)
                 ∙ tensor_moved ∙ sym meaning)
             | no o ↦ at_kept (new_number a n) (rw last (new_number_mono a n m (omega arith)))
                 (record { more = node_tensor us x' ∷ []; is = refl }) ∙ s.kept n (omega arith) h

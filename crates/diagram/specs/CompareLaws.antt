@@ -48,7 +48,8 @@ module _ {d : ℕ} (A B : Tensor d) where
   pub compared_factor : (f : Weight) → A ≢ B → Nonzero f → A ≡ scale f B → compared A B ≡ Factor f.number
   unfolding compared
   compared_factor f ne n e =
-      let z : is_zero B ≡ false = cases (is_zero B) (λ z. absurd (ne (e ∙ zero_part f z ∙ sym (is_zero_eq B z)))) (λ z. z)
+      let z : is_zero B
+      ≡ false = cases (is_zero B) (λ z. absurd (ne (e ∙ zero_part f z ∙ sym (is_zero_eq B z)))) (λ z. z)
       in
       let y : is_zero A ≡ false = ap is_zero e ∙ is_zero_scale f B n ∙ z in
       rw (not_same ne, y, ratio_is f z n e, eq_same e)

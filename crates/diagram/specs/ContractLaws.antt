@@ -205,7 +205,8 @@ module _ {c s : List ℕ} {st : State} {a b : Edge} {m : ℕ} (g : OperationRequ
   one_not e z = omega arith
 
   pub contract_whole : {k : ℕ} → k ≡ lowest_of s st a b
-      → cont (tensor_of s st a) (tensor_of s st b) (bits m) ≡ both (cont_without k m) k (tensor_of s st a) (tensor_of s st b)
+      → cont (tensor_of s st a) (tensor_of s st b) (bits m)
+      ≡ both (cont_without k m) k (tensor_of s st a) (tensor_of s st b)
       (combine k m)
   contract_whole {k} q =
       cont_both _ _ (set_of s st) (bits m)

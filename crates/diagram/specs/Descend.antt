@@ -9,7 +9,7 @@ module _ {Y X : Type 0} (measure : Y → ℕ) (stop : X) (body : (Y → X) → Y
   descend_f (suc n) y = body (descend_f n) y
 
   -- the function that calls itself through body; `stop` is never reached where each call has a smaller measure
-  -- (descend-step)
+  -- (descend_step)
   unfoldable pub descend : Y → X
   descend y = descend_f (suc (measure y)) y
 

@@ -1,5 +1,6 @@
 -- Laws of a gate's entries: the code's arrays have them, and they depend on the indices that the gate uses alone.
-use Rattle.std.specs.Prelude.{◌≡◌, refl, ◌≢◌, Bool, true, false, ◌&&◌, ◌||◌, not, List, [], map, ℕ, ◌+◌, ◌*◌, ◌/◌, ◌%◌, eqb, get_or}
+use Rattle.std.specs.Prelude.{◌≡◌, refl, ◌≢◌, Bool, true, false, ◌&&◌, ◌||◌, not, List, [], map, ℕ, ◌+◌, ◌*◌, ◌/◌, ◌%◌}
+use Rattle.std.specs.Prelude.{eqb, get_or}
 use Rattle.std.proofs.Common.{ap, sym, ◌∙◌, true≢false, arith, eq-eqb, ne_eqb}
 use Rattle.std.proofs.Math.ListN.{get_or-map}
 use Rattle.std.proofs.lemmas.Bool.{eqb-false}
@@ -45,7 +46,8 @@ entry_single g v p q e t = number_represents (entry g (bits v))
 
 -- a gate on two qubits
 
-at_each : {A : Type 0} (f : Bool → Bool → A) (none : A) (x y : Bool) → get_or (by_bits f) (2 * bit x + bit y) none ≡ f x y
+at_each : {A : Type 0} (f : Bool → Bool → A) (none : A) (x y : Bool)
+    → get_or (by_bits f) (2 * bit x + bit y) none ≡ f x y
 at_each f none false false = refl
 at_each f none false true = refl
 at_each f none true false = refl
@@ -74,7 +76,8 @@ entry_pair {g} {h} v e p q x y t =
     number_represents (entry g (bits v))
     (t ∙ rw (q, x, y, e) (table_at (rule h) _ _ _ _ ∙ ap (λ (w : Weight). w.number) (sym (double_entry h (bits v) p))))
 
-pub unused : (g : Gate) (k : ℕ) → (k % 3 ≢ 0 → (k / 3 ≢ first_qubit g) × (k / 3 ≢ second_qubit g)) → uses_index g k ≡ false
+pub unused : (g : Gate) (k : ℕ) → (k % 3 ≢ 0 → (k / 3 ≢ first_qubit g) × (k / 3 ≢ second_qubit g))
+    → uses_index g k ≡ false
 unfolding uses_index
 unused g k n = go (eqb (k % 3) 0) refl
   where
@@ -94,7 +97,8 @@ agree_entry g f h p r = on (shape g) p r
     on (One q) p r = unfold on_qubit in rw (p.0, p.1)
     on (Two a b) p r = rw (p.0, p.1, r.0, r.1)
 
-pub unused_entry : (g : Gate) (k : ℕ) (b : Bool) (f : Bits) → uses_index g k ≡ false → entry g (assign k b f) ≡ entry g f
+pub unused_entry : (g : Gate) (k : ℕ) (b : Bool) (f : Bits) → uses_index g k ≡ false
+    → entry g (assign k b f) ≡ entry g f
 unfolding uses_index
 unused_entry g k b f e = agree_entry g (assign k b f) f (same (first_qubit g) left) (same (second_qubit g) right)
   where

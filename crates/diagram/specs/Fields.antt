@@ -1,7 +1,7 @@
 -- The store's bytes as records of 16 bytes ("Node n fills the store's bytes 16(n-1) to 16n-1"), each eight fields of
 -- two bytes, low byte first. Every write to the store is a `put_field` of one field, so what stays as it is is said
--- once, in FieldsLaws: `put_field_same`, `put_field_other` (another record) and `put_field_beside` (another field, of any
--- record).
+-- once, in FieldsLaws: `put_field_same`, `put_field_other` (another record) and `put_field_beside` (another field, of
+-- any record).
 use Rattle.std.specs.Prelude.{List, ℕ, ◌+◌, ◌*◌, ◌/◌, ◌%◌, ◌≤◌, ◌<◌, length, get_or, set}
 
 -- field f of record i, records counted from 0

@@ -36,7 +36,8 @@ module _ (k m : ℕ) (s : List ℕ) (t : TableSound s m k) (w : RecordWithin s (
 
   head_new : head_at (link_node k (suc m) s) front ≡ suc m
   unfolding link_node
-  head_new = put_field_same _ 4 _ _ (omega (arith, front_lt, t.place, put_field_length s 5 (suc m - 1) (head_at s front)))
+  head_new = put_field_same _ 4 _ _
+      (omega (arith, front_lt, t.place, put_field_length s 5 (suc m - 1) (head_at s front)))
 
   head_old : (b : ℕ) → b ≢ front → head_at (link_node k (suc m) s) b ≡ head_at s b
   unfolding link_node
@@ -65,7 +66,8 @@ module _ (k m : ℕ) (s : List ℕ) (t : TableSound s m k) (w : RecordWithin s (
         nexts = λ n p q. rw (link_node_at k (suc m) s) (nexts n p q (ℕ_discrete n (suc m)));
       }
     where
-      heads : (b : ℕ) → b < k → Dec (b ≡ front) → head_at (link_node k (suc m) s) b ≡ last (hash_of k (node_at s)) b (suc m)
+      heads : (b : ℕ) → b < k → Dec (b ≡ front)
+          → head_at (link_node k (suc m) s) b ≡ last (hash_of k (node_at s)) b (suc m)
       heads b h (yes e) = ap (head_at _) e ∙ head_new ∙ sym (last_new (hash_of k (node_at s)) b m (sym e))
       heads b h (no d) = head_old b d ∙ t.heads b h ∙ sym (last_old (hash_of k (node_at s)) b m (λ e. d (sym e)))
 
@@ -127,7 +129,8 @@ module _ {k m : ℕ} {s s₁ s₂ : List ℕ} {x : Node} (t : TableSound s m k) 
 pub clear_none : (s : List ℕ) → ClearEnsures s s 0
 clear_none s = record { long = refl; kept = refl; none = λ b h. absurd (omega arith) }
 
-pub clear_more : {s s' s₁ : List ℕ} {i k : ℕ} → i < k → 16 * k ≤ length s → ClearEnsures s s' i → s₁ ≡ put_field s' 4 i 0
+pub clear_more : {s s' s₁ : List ℕ} {i k : ℕ} → i < k → 16 * k ≤ length s → ClearEnsures s s' i
+    → s₁ ≡ put_field s' 4 i 0
     → ClearEnsures s s₁ (i + 1)
 clear_more {s} {s'} {i = i} l h c q = rw q
     record {

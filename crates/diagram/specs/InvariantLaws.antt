@@ -44,7 +44,8 @@ unfoldable is_edge : RegisterContent → Bool
 is_edge (content.Edge e) = true
 is_edge content.Empty = false
 
-pub invariant_start : {c s s' : List ℕ} {st : State} {rs : List Register} → StartEnsures c s s' st → rs ≡ empty_registers
+pub invariant_start : {c s s' : List ℕ} {st : State} {rs : List Register} → StartEnsures c s s' st
+    → rs ≡ empty_registers
     → Invariant c s' st rs
 invariant_start {s' = s'} {st = st} f q =
     rw q (record {

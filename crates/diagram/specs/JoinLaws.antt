@@ -96,7 +96,8 @@ module _ (d : ℕ) (xs : List Node) (c : Canonical d xs) where
         → times_w (to_weight w) (to_weight e.weight) ≡ to_weight f.weight
         → Valid (length xs) f → FreeBelow (suc k) (edge_in ts f) → Part e f
     part e f p q r v g =
-        let s : scale (to_weight w) (edge_in ts e) ≡ edge_in ts f = unfold edge_in in scale_scale _ _ _ ∙ rw (r, q) refl in
+        let s : scale (to_weight w) (edge_in ts e) ≡ edge_in ts f = unfold edge_in in scale_scale _ _ _
+        ∙ rw (r, q) refl in
         record {
           scaled = s;
           valid = record {
@@ -105,7 +106,8 @@ module _ (d : ℕ) (xs : List Node) (c : Canonical d xs) where
             zero = λ y. q ∙ v.zero (weight_injective _ _ v.small (omega arith)
                 (sym r ∙ rw y (weight_times_zero w)));
           };
-          from = subst (FreeBelow (suc k)) (ap (scale (inverse_w (to_weight w))) (sym s) ∙ unscale (edge_in ts e) nonzero)
+          from = subst (FreeBelow (suc k)) (ap (scale (inverse_w (to_weight w))) (sym s)
+              ∙ unscale (edge_in ts e) nonzero)
               (free_below_scale (suc k) _ _ g);
         }
 
@@ -121,7 +123,8 @@ module _ (d : ℕ) (xs : List Node) (c : Canonical d xs) where
 
     differ : same (edge_in ts l) (edge_in ts h) ≡ false
     differ =
-        cases (same (edge_in ts l) (edge_in ts h)) (λ e. absurd (ne (canonical_edge_unique d xs c vl vh (same_eq _ _ e))))
+        cases (same (edge_in ts l) (edge_in ts h))
+        (λ e. absurd (ne (canonical_edge_unique d xs c vl vh (same_eq _ _ e))))
         (λ e. e)
 
     -- the first nonzero value of the node's tensor is 1
@@ -193,7 +196,8 @@ module _ (d : ℕ) (xs : List Node) (c : Canonical d xs) where
 -- the mask made from the masks of the parts
 pub node_mask_ensures : {s : List ℕ} {st : State} {k : ℕ} {l h : Edge} {own low high : ℕ} → k < index_count
     → own ≡ 2 ^ k
-    → (low ≡ support_mask (tensor_of s st l)) × (low < masks) → (high ≡ support_mask (tensor_of s st h)) × (high < masks)
+    → (low ≡ support_mask (tensor_of s st l)) × (low < masks)
+    → (high ≡ support_mask (tensor_of s st h)) × (high < masks)
     → NodeMaskEnsures s st k l h (bit_or own (bit_or low high))
 node_mask_ensures {k = k} {low = low} {high} p o m n =
     record {
@@ -261,7 +265,8 @@ module _ {s : List ℕ} {st : State} {k : ℕ} {l h : Edge} (held : Sound s st) 
       record After (ys : List Node) (n : ℕ) : Type 0 where
         pub canonical : Canonical indices ys
         pub grown : PrefixOf xs ys
-        pub is : does (set_of s st) ≡ (edge_in (tensors indices ys) (record { weight = w; node = n }), tensors indices ys)
+        pub is : does (set_of s st)
+            ≡ (edge_in (tensors indices ys) (record { weight = w; node = n }), tensors indices ys)
 
       there : (n : ℕ) → 1 ≤ n → n ≤ length xs → node_in indices xs n ≡ x → After xs n
       unfolding tensor_of set_of

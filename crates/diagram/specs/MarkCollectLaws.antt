@@ -43,7 +43,8 @@ keep_only_append l [] t = refl
 keep_only_append l (x ∷ s) t = go (member x l) (keep_only_append l s t)
   where
     go : (b : Bool) → keep_only l (s ++ t) ≡ keep_only l s ++ keep_only l t
-        → cond b (x ∷ keep_only l (s ++ t)) (keep_only l (s ++ t)) ≡ cond b (x ∷ keep_only l s) (keep_only l s) ++ keep_only
+        → cond b (x ∷ keep_only l (s ++ t)) (keep_only l (s ++ t)) ≡ cond b (x ∷ keep_only l s) (keep_only l s)
+        ++ keep_only
         l t
     go true e = ap (λ r. x ∷ r) e
     go false e = e
@@ -105,9 +106,15 @@ module _ (d : ℕ) (f : ℕ → Node) (count : ℕ) (a : ℕ → ℕ) (canonical
         place = at_suc ts m
 
         go : Dec (a (suc m) ≡ 0) → keep_only l (take m ts) ≡ tensors d (survivors a f m)
-            → keep_only l (take m ts) ++ keep_only l (get_or ts m (constant d 1w) ∷ []) ≡ tensors d (survivors a f (suc m))
+            → keep_only l (take m ts)
+            ++ keep_only l (get_or ts m (constant d 1w) ∷ []) ≡ tensors d (survivors a f (suc m))
         go (yes z) e =
-            rw (survivors_dead a f m z, place, keep_only_none l (tensor_at ts (suc m)) (other (suc m) (omega arith) p z))
+            rw (
+              survivors_dead a f m z,
+              place,
+              keep_only_none l (tensor_at ts (suc m))
+                  (other (suc m) (omega arith) p z),
+            )
             (append-nil (keep_only l (take m ts)) ∙ e)
         go (no n) e =
             let one = keep_only_one l (tensor_at ts (suc m)) (marked (suc m) (omega arith) p n) in

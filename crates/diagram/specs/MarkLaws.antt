@@ -1,5 +1,6 @@
 -- Laws of marking: from the registers, then downwards, since children stand before their parents.
-use Rattle.std.specs.Prelude.{◌≡◌, refl, ◌≢◌, List, [], ◌∷◌, ◌++◌, true, false, ℕ, ◌*◌, ◌≤◌, ◌-◌, ◌+◌, ◌<◌, length, get_or, take}
+use Rattle.std.specs.Prelude.{◌≡◌, refl, ◌≢◌, List, [], ◌∷◌, ◌++◌, true, false, ℕ, ◌*◌, ◌≤◌, ◌-◌, ◌+◌, ◌<◌, length}
+use Rattle.std.specs.Prelude.{get_or, take}
 use Rattle.std.proofs.Common.{ap, sym, subst, ◌∙◌, append-nil, arith, add-one, take-suc, take_all}
 use Rattle.std.proofs.Math.Decide.{ℕ_discrete}
 use Rattle.diagram.specs.Fields.{field, put_field}

@@ -1,7 +1,8 @@
 -- Laws of masks: members, a member taken out, members below an index counted, members from an index on.
 use Rattle.std.specs.Prelude.{◌≡◌, refl, Bool, true, cond, eqb}
 use Rattle.std.proofs.Math.Path.{ap, fun_ext}
-use Rattle.std.proofs.Common.{ap₂, sym, subst, ◌∙◌, arith, add-one, one-add, one-mul, mod-lt, mod-eq_of_lt, div-add-mod', lit<, shl_exact}
+use Rattle.std.proofs.Common.{ap₂, sym, subst, ◌∙◌, arith, add-one, one-add, one-mul, mod-lt, mod-eq_of_lt}
+use Rattle.std.proofs.Common.{div-add-mod', lit<, shl_exact}
 use Rattle.std.proofs.Math.Bool.{false}
 use Prim.Native.Nat.{ℕ, zero, suc, ◌+◌, ◌-◌, ◌*◌, ◌/◌, ◌%◌, ◌^◌, ◌≤◌, ◌<◌}
 use Rattle.std.proofs.Math.Nat.{pow-succ', div-div-eq-div-mul, zero-mul}

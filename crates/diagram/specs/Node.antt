@@ -4,7 +4,8 @@
 --   field 1   low node             field 2   high weight % 65536          field 3   high node
 --   field 4   the unique table's head of bucket n - 1                     field 5   the next node of n's chain
 --   field 6   mask % 65536         field 7   mask / 65536
-use Rattle.std.specs.Prelude.{List, [], ◌∷◌, ◌++◌, Bool, true, false, ℕ, ◌+◌, ◌*◌, ◌/◌, ◌%◌, ◌≤◌, ◌<◌, ◌-◌, min, zero, suc, length}
+use Rattle.std.specs.Prelude.{List, [], ◌∷◌, ◌++◌, Bool, true, false, ℕ, ◌+◌, ◌*◌, ◌/◌, ◌%◌, ◌≤◌, ◌<◌, ◌-◌, min, zero}
+use Rattle.std.specs.Prelude.{suc, length}
 use Rattle.diagram.specs.Fields.{field, put_field}
 use Rattle.diagram.specs.declared.node.Node.{Node}
 
@@ -50,7 +51,8 @@ packed_field x = x.index + 256 * x.low.weight + 512 * (x.high.weight / 65536)
 -- the store with x for its node n
 unfoldable pub put_node : List ℕ → ℕ → Node → List ℕ
 put_node s n x =
-    put_field (put_field (put_field (put_field (put_field (put_field s 0 (n - 1) (packed_field x)) 1 (n - 1) x.low.node) 2
+    put_field
+    (put_field (put_field (put_field (put_field (put_field s 0 (n - 1) (packed_field x)) 1 (n - 1) x.low.node) 2
     (n - 1) (x.high.weight % 65536)) 3 (n - 1) x.high.node) 6 (n - 1) (x.mask % 65536)) 7 (n - 1)
     (x.mask / 65536)
 

@@ -1,5 +1,6 @@
 -- Laws of the set as a list: growing, putting in, what is present, nothing twice, all normal.
-use Rattle.std.specs.Prelude.{◌≡◌, refl, Bool, true, false, cond, ◌||◌, List, [], ◌∷◌, ◌++◌, ℕ, zero, suc, ◌<◌, length, get_or}
+use Rattle.std.specs.Prelude.{◌≡◌, refl, Bool, true, false, cond, ◌||◌, List, [], ◌∷◌, ◌++◌, ℕ, zero, suc, ◌<◌, length}
+use Rattle.std.specs.Prelude.{get_or}
 use Rattle.std.proofs.Common.{ap, sym, ◌∙◌, true≢false, append_assoc, append-nil, arith, length-append}
 use Rattle.diagram.specs.Tensor.{Tensor, same, Normal}
 use Rattle.diagram.specs.TensorLaws.{same_refl, same_eq, eq_same}

@@ -43,7 +43,8 @@ pub set_length : (s : List ℕ) (st : State) → length (set_of s st) ≡ st.cou
 unfolding set_of
 set_length s st = tensors_length indices (nodes_of s st) ∙ nodes_length s st
 
-pub node_at_lem : (d : ℕ) (s : List ℕ) (st : State) (n : ℕ) → 1 ≤ n → n ≤ st.count → node_in d (nodes_of s st) n ≡ node_at s n
+pub node_at_lem : (d : ℕ) (s : List ℕ) (st : State) (n : ℕ) → 1 ≤ n → n ≤ st.count
+    → node_in d (nodes_of s st) n ≡ node_at s n
 unfolding nodes_of node_in
 node_at_lem d s st zero p q = absurd (omega arith)
 node_at_lem d s st (suc n) p q = listed_at (node_at s) st.count n (no_node d) q

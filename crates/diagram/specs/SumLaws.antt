@@ -70,7 +70,8 @@ module _ {c s : List ℕ} {st : State} {a b : Edge} (g : OperationRequires c s s
     unfolding tensor_of set_of
     two_nodes e = multiple_two indices (nodes_of s st) g.sound.nodes a b va vb na nb e
 
-    added_is : {r : Edge} → a.node ≡ b.node → IsSum a b r → tensor_of s st r ≡ plus (tensor_of s st a) (tensor_of s st b)
+    added_is : {r : Edge} → a.node ≡ b.node → IsSum a b r
+        → tensor_of s st r ≡ plus (tensor_of s st a) (tensor_of s st b)
     unfolding tensor_of
     added_is e t = edge_sum_tensor (set_of s st) e t
 
@@ -174,7 +175,8 @@ module _ {c s : List ℕ} {st : State} {a b a0 b0 : Edge} {k : ℕ} (g : Operati
     (m : k ≡ lowest_of s st a b)
     (ca : IsCofactor s st a k false a0) (cb : IsCofactor s st b k false b0) (c₁ s₁ : List ℕ) (r : Outcome)
     (w : RefinesCached c₁ s s₁ st (sum (tensor_of s st a0) (tensor_of s st b0)) r) where
-  pub sum_low_full : r ≡ outcome.Full → RefinesCached c₁ s s₁ st (sum (tensor_of s st a) (tensor_of s st b)) outcome.Full
+  pub sum_low_full : r ≡ outcome.Full
+      → RefinesCached c₁ s s₁ st (sum (tensor_of s st a) (tensor_of s st b)) outcome.Full
   sum_low_full e = low_part_full g (inside g (sum_some g p) m) m (sum_parts_at g m) (sum_whole g p m) ca cb c₁ s₁ r w e
 
   module _ {l : Edge} {t : State} (e : r ≡ outcome.Edge l t) where
@@ -208,7 +210,8 @@ module _ {c s : List ℕ} {st : State} {a b a1 b1 l : Edge} {k : ℕ} (w : HighR
     pub sum_joinable : Sound s₁ t × JoinRequires s₁ t k l x
     sum_joinable = ((high_ready w v ca cb c₁ s₁ r h e).sound, high_joinable w v ca cb c₁ s₁ r h e)
 
-    pub sum_high_refines : (s₂ : List ℕ) (q : Outcome) → Refines s₁ s₂ t (join k (tensor_of s₁ t l) (tensor_of s₁ t x)) q
+    pub sum_high_refines : (s₂ : List ℕ) (q : Outcome)
+        → Refines s₁ s₂ t (join k (tensor_of s₁ t l) (tensor_of s₁ t x)) q
         → RefinesCached c₁ s s₂ st (high_step sum (join k) k (tensor_of s st a) (tensor_of s st b) (tensor_of s st l)) q
     sum_high_refines s₂ q d =
         high_part_refines w v ca cb c₁ s₁ r h e c₁ s₂ q (cached_step s₂ _ q (high_ready w v ca cb c₁ s₁ r h e) d)

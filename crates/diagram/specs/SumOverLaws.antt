@@ -1,4 +1,4 @@
--- Laws of sumOver: adding over a set of indices.
+-- Laws of sum_over: adding over a set of indices.
 use Rattle.std.specs.Prelude.{◌≡◌, Bool, true, false, cond, ℕ, zero, suc, ◌≤◌, ◌<◌}
 use Rattle.std.proofs.Math.Path.{refl, ap₂, sym}
 use Rattle.std.proofs.Common.{ap, ◌∙◌, suc-le-suc, arith, not-suc-le-zero, le_of_suc-le-suc}
@@ -88,7 +88,8 @@ unfolding sum_over fix
 sum_over_out k S (weight w) e = unfold joined in refl
 sum_over_out zero S (split l h) e = rw e (unfold add_or_keep joined in refl)
 sum_over_out (suc k) S (split l h) e =
-    sym (level_joined (S 0) k _ _ _ _) ∙ ap₂ (add_or_keep (S 0)) (sum_over_out k (tail S) l e) (sum_over_out k (tail S) h e)
+    sym (level_joined (S 0) k _ _ _ _)
+    ∙ ap₂ (add_or_keep (S 0)) (sum_over_out k (tail S) l e) (sum_over_out k (tail S) h e)
 
 -- fixing an index
 

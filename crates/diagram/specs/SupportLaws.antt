@@ -1,6 +1,8 @@
 -- Laws of the mask of a tensor: its bits; of constants and multiples; of a tensor joined from two parts.
-use Rattle.std.specs.Prelude.{◌≡◌, refl, Bool, true, false, cond, ◌||◌, ℕ, zero, suc, ◌+◌, ◌*◌, ◌/◌, ◌%◌, ◌^◌, ◌≤◌, ◌<◌, ltb, eqb}
-use Rattle.std.proofs.Common.{ap, ap₂, sym, ◌∙◌, arith, not-suc-le-zero, le_of_suc-le-suc, ltb-true, ltb-false, eqb-true}
+use Rattle.std.specs.Prelude.{◌≡◌, refl, Bool, true, false, cond, ◌||◌, ℕ, zero, suc, ◌+◌, ◌*◌, ◌/◌, ◌%◌, ◌^◌, ◌≤◌, ◌<◌}
+use Rattle.std.specs.Prelude.{ltb, eqb}
+use Rattle.std.proofs.Common.{ap, ap₂, sym, ◌∙◌, arith, not-suc-le-zero, le_of_suc-le-suc, ltb-true, ltb-false}
+use Rattle.std.proofs.Common.{eqb-true}
 use Rattle.std.proofs.Math.Option.{some}
 use Rattle.std.specs.Int.Bits.{bit_or}
 use Rattle.std.proofs.lemmas.Nat.{or_lt}
@@ -106,4 +108,5 @@ pub support_joined : {d : ℕ} (k : ℕ) (L H : Tensor d) → k < d → FreeBelo
     → support_mask (joined k L H) ≡ bit_or (2 ^ k) (bit_or (support_mask L) (support_mask H))
 support_joined k L H p f g n =
     support_parts k (joined k L H) (top_joined k L H p f g n)
-    ∙ ap₂ (λ X Y. bit_or (2 ^ k) (bit_or (support_mask X) (support_mask Y))) (joined_low k L H p f) (joined_high k L H p g)
+    ∙ ap₂ (λ X Y. bit_or (2 ^ k) (bit_or (support_mask X) (support_mask Y))) (joined_low k L H p f)
+    (joined_high k L H p g)

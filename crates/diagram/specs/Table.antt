@@ -25,7 +25,7 @@ mix x = x.index * 40503 + x.low.weight * 977 + x.low.node + x.high.weight * 2741
 unfoldable pub hash : ℕ → Node → ℕ
 hash k x = bit_and (mix x) (k - 1)
 
--- the bucket of the n-th of the nodes f. Shut, so that `rw` finds `nodeAt s` in `hashOf k (nodeAt s)`
+-- the bucket of the n-th of the nodes f. Shut, so that `rw` finds `node_at s` in `hash_of k (node_at s)`
 unfoldable pub hash_of : ℕ → (ℕ → Node) → ℕ → ℕ
 hash_of k f n = hash k (f n)
 

@@ -43,8 +43,8 @@ unfoldable pub join : {d : ℕ} → ℕ → Tensor d → Tensor d → Step d
 join k L H = join_cases (same L H) (joined k L H)
 
 -- A recursion is written as its body: its cases, and `rec` where it calls itself. It ends, since the top rises at each
--- call, so that the first argument of onTop is never answered. That it is its body with itself for `rec`: sum-step,
--- cont-step, low-step and build-step.
+-- call, so that the first argument of on_top is never answered. That it is its body with itself for `rec`: sum_step,
+-- cont_step, low_step and build_step.
 
 abbrev pub Binary : ℕ → Type 0
 Binary d = Tensor d → Tensor d → Step d

@@ -28,7 +28,8 @@ low_at_local k false true t rec rec' A h = refl
 low_at_local k false false t rec rec' A h = halves_local rec rec' t A (join t) (h false) (h true)
 
 low_cases_local : {d : ℕ} (k : ℕ) (o : Option ℕ) (rec rec' : Unary d) (A : Tensor d)
-    → ((t : ℕ) (b : Bool) → o ≡ some t → rec (fix t b A) ≡ rec' (fix t b A)) → low_cases k o rec A ≡ low_cases k o rec' A
+    → ((t : ℕ) (b : Bool) → o ≡ some t → rec (fix t b A) ≡ rec' (fix t b A))
+    → low_cases k o rec A ≡ low_cases k o rec' A
 unfolding low_cases
 low_cases_local k none rec rec' A h = refl
 low_cases_local k (some t) rec rec' A h = low_at_local k _ _ t rec rec' A (λ b. h t b refl)

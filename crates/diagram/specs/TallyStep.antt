@@ -21,7 +21,7 @@ pub record ScaledStep {d : ℕ} (c : Weight) (f g : Step d) : Type 0 where
 pub record SetAfter {d : ℕ} (s : Set d) (r : Tensor d × Set d) : Type 0 where
   -- the tensors of before stay, in their order, and others follow
   pub grown : PrefixOf s r.1
-  -- all normal, none twice, none a multiple of another (normal-set-apart)
+  -- all normal, none twice, none a multiple of another (normal_set_apart)
   pub normal : NormalSet s → NormalSet r.1
-  -- each nonconstant cofactor of the answer has its normal multiple there (covers-exactly)
+  -- each nonconstant cofactor of the answer has its normal multiple there (covers_exactly)
   pub covered : Covers r.1 r.0

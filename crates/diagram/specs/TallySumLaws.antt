@@ -69,7 +69,8 @@ sum_cases_writes false false false (some k) A B p q e h =
 pub sum_writes : {d : ℕ} (A B : Tensor d) → Writes (plus A B) (sum A B)
 unfolding sum_body
 sum_writes = induction2 (λ A B. Writes (plus A B) (sum A B))
-    (λ A B h. rw (sum_step A B) (sum_cases_writes (is_zero A) (is_zero B) (multiple A B) (top2 A B) A B refl refl refl h))
+    (λ A B h. rw (sum_step A B) (sum_cases_writes (is_zero A) (is_zero B) (multiple A B) (top2 A B) A B refl refl refl
+    h))
 
 pub sum_meaning : {d : ℕ} (A B : Tensor d) (s : Set d) → (sum A B s).0 ≡ plus A B
 sum_meaning A B s = writes_answer (sum_writes A B) s

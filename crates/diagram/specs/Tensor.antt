@@ -1,6 +1,7 @@
 -- Tensors (document 01, "Tensors"), then the operations on them that the tally's sentences name. The laws are in the
 -- files beside.
-use Rattle.std.specs.Prelude.{◌≡◌, refl, Bool, true, false, cond, ◌&&◌, not, ℕ, zero, suc, ◌+◌, ◌*◌, ◌%◌, ◌/◌, ◌-◌, eqb, leb}
+use Rattle.std.specs.Prelude.{◌≡◌, refl, Bool, true, false, cond, ◌&&◌, not, ℕ, zero, suc, ◌+◌, ◌*◌, ◌%◌, ◌/◌, ◌-◌, eqb}
+use Rattle.std.specs.Prelude.{leb}
 use Rattle.std.proofs.Math.Option.{Option, none, some}
 use Rattle.field.specs.Weight.{Weight, 0w, 1w, plus_w, times_w, same_w, inverse_w}
 

@@ -1,6 +1,7 @@
 -- Laws of the top, and recursion on the lower top of two tensors.
 use Rattle.std.specs.Prelude.{◌≡◌, refl, Bool, true, false, cond, ℕ, zero, suc, ◌≤◌, ◌<◌, leb}
-use Rattle.std.proofs.Common.{ap, ap₂, sym, ◌∙◌, suc-le-suc, arith, not-suc-le-zero, le_of_suc-le-suc, le_refl, leb-true, leb-false}
+use Rattle.std.proofs.Common.{ap, ap₂, sym, ◌∙◌, suc-le-suc, arith, not-suc-le-zero, le_of_suc-le-suc, le_refl}
+use Rattle.std.proofs.Common.{leb-true, leb-false}
 use Rattle.std.proofs.Math.Option.{Option, none, some}
 use Rattle.diagram.specs.Descend.{top_measure, Local, Local2, on_top, on_top2}
 use Rattle.diagram.specs.DescendLaws.{descend_step, descend_induction}

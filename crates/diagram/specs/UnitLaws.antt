@@ -73,7 +73,8 @@ at_from : (d q m : ℕ) (f : Bits) → 3 * (q + m) ≤ d → at (unit_from {d = 
 unfolding unit_from straight_from
 at_from d q zero f p = at_constant d 1w f
 at_from d q (suc m) f p =
-    at_onto q (unit_from (suc q) m) f (omega arith) ∙ ap (λ w. cond (own q f) w 0w) (at_from d (suc q) m f (omega arith))
+    at_onto q (unit_from (suc q) m) f (omega arith)
+    ∙ ap (λ w. cond (own q f) w 0w) (at_from d (suc q) m f (omega arith))
     ∙ go (own q f) (straight_from (suc q) m f)
   where
     go : (a b : Bool) → cond a (cond b 1w 0w) 0w ≡ cond (a && b) 1w 0w

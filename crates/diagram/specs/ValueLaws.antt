@@ -40,7 +40,8 @@ module _ {s : List ℕ} {st : State} {a : Edge} {v w n : ℕ} (held : Sound s st
     pub value_on : b ≡ bits v k → ValueLoop s st a v f.weight f.node
     value_on e = record { valid = c.valid; is = ap (λ T. value T v) c.is ∙ value_fix _ k v b e ∙ r.is }
 
-    pub value_less : index_count - level_of s st (record { weight = f.weight; node = f.node }) < index_count - level_of s
+    pub value_less : index_count - level_of s st (record { weight = f.weight; node = f.node }) < index_count - level_of
+        s
         st (record { weight = w; node = n })
     value_less = omega (arith, c.above, value_inside)
 

@@ -1,6 +1,7 @@
 -- Numbers that represent sums, products and inverses; the steps to an inverse.
 use Rattle.std.specs.Prelude.{◌≡◌, refl, ◌≢◌, Bool, true, false, ℕ, ◌+◌, ◌*◌, ◌-◌, ◌/◌, ◌%◌, ◌≤◌, ◌<◌, eqb}
-use Rattle.std.proofs.Common.{ap, sym, ◌∙◌, inl, inr, add-mul, suc-mul, mod-lt, div-add-mod', div-lt_iff_lt-mul, le-div_iff_mul-le, add-one, arith, eqb-true}
+use Rattle.std.proofs.Common.{ap, sym, ◌∙◌, inl, inr, add-mul, suc-mul, mod-lt, div-add-mod', div-lt_iff_lt-mul}
+use Rattle.std.proofs.Common.{le-div_iff_mul-le, add-one, arith, eqb-true}
 use Rattle.std.proofs.Math.Nat.{dvd_of_mod-eq-zero}
 use Rattle.std.proofs.lemmas.Bool.{eqb-false}
 use Rattle.field.specs.Weight.{modulus, small_mod, to_weight, 0w, 1w, plus_w, times_w, ones_power, inverse_w}
@@ -113,7 +114,8 @@ descent_end {a} {f} {w} p h =
     record {
       small = p.small;
       is = sym (times_w_one (to_weight f)) ∙ times_w_comm 1w (to_weight f)
-          ∙ ap (times_w (to_weight f)) (sym (ap (λ x. inverse_w (to_weight x)) one ∙ ap inverse_w weight_one ∙ inverse_one))
+          ∙ ap (times_w (to_weight f)) (sym (ap (λ x. inverse_w (to_weight x)) one ∙ ap inverse_w weight_one
+          ∙ inverse_one))
           ∙ p.is;
     }
 

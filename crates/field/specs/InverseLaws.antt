@@ -2,7 +2,8 @@
 -- other. By strong induction on w's number: up to 256 it is computed; above, 65537 = q w + r with q and r smaller than
 -- w and r not 0 (65537 is prime), so that q w and r are opposite and have the same square.
 use Rattle.std.specs.Prelude.{◌≡◌, refl, Bool, true, false, ◌&&◌, ℕ, zero, suc, ◌+◌, ◌*◌, ◌%◌, ◌/◌, ◌≤◌, ◌<◌, eqb, leb}
-use Rattle.std.proofs.Common.{ap, sym, ◌∙◌, arith, mod-lt, div-add-mod', div-lt_iff_lt-mul, le-div_iff_mul-le, eqb-true, leb-true, leb-false}
+use Rattle.std.proofs.Common.{ap, sym, ◌∙◌, arith, mod-lt, div-add-mod', div-lt_iff_lt-mul, le-div_iff_mul-le, eqb-true}
+use Rattle.std.proofs.Common.{leb-true, leb-false}
 use Rattle.std.proofs.lemmas.Bool.{eqb-false}
 use Rattle.field.specs.Weight.{modulus, Weight, to_weight, 0w, 1w, plus_w, times_w, same_w, Nonzero, ones_power}
 use Rattle.field.specs.Weight.{inverse_w}

@@ -1,6 +1,8 @@
 -- "that 65537 is prime is shown, not assumed"
-use Rattle.std.specs.Prelude.{◌≡◌, refl, Bool, true, false, ◌&&◌, not, ◌⊎◌, ℕ, zero, suc, ◌*◌, ◌%◌, ◌/◌, ◌≤◌, ◌<◌, eqb, leb}
-use Rattle.std.proofs.Common.{ap, sym, ◌∙◌, inl, inr, arith, div-add-mod', div-lt_iff_lt-mul, eqb-true, leb-true, leb-false, eq-eqb}
+use Rattle.std.specs.Prelude.{◌≡◌, refl, Bool, true, false, ◌&&◌, not, ◌⊎◌, ℕ, zero, suc, ◌*◌, ◌%◌, ◌/◌, ◌≤◌, ◌<◌, eqb}
+use Rattle.std.specs.Prelude.{leb}
+use Rattle.std.proofs.Common.{ap, sym, ◌∙◌, inl, inr, arith, div-add-mod', div-lt_iff_lt-mul, eqb-true, leb-true}
+use Rattle.std.proofs.Common.{leb-false, eq-eqb}
 use Rattle.std.proofs.lemmas.Bool.{false≢true, eqb-false}
 use Rattle.std.specs.Int.{◌∣◌}
 use Rattle.std.proofs.Math.Nat.{mul-mod_right, mod-eq-zero_of_dvd, eq-zero_of_zero-dvd}

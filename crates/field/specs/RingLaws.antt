@@ -1,6 +1,7 @@
 -- The laws of a commutative ring, and how weights and their numbers determine each other.
 use Rattle.std.specs.Prelude.{◌≡◌, refl, Bool, true, false, ℕ, suc, ◌+◌, ◌*◌, ◌-◌, ◌%◌, ◌/◌, ◌<◌}
-use Rattle.std.proofs.Common.{ap, sym, ◌∙◌, true≢false, mod-eq_of_lt, add_comm, add_assoc, mul_comm, mul_assoc, add-mul, mul-add, one-mul, zero-mul, arith, eqb-true, eq-eqb, ne_eqb}
+use Rattle.std.proofs.Common.{ap, sym, ◌∙◌, true≢false, mod-eq_of_lt, add_comm, add_assoc, mul_comm, mul_assoc, add-mul}
+use Rattle.std.proofs.Common.{mul-add, one-mul, zero-mul, arith, eqb-true, eq-eqb, ne_eqb}
 use mathlib.Core.HLevel.{is_prop→PathP}
 use Rattle.std.proofs.Math.Bridge.{le_prop}
 use Rattle.std.proofs.Math.Nat.{mod-mod, mod-add-mod, add-mod-mod, mod-add-div, add-mul-mod_self_left}

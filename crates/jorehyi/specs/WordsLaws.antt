@@ -34,7 +34,12 @@ registers_length : (i : ℕ) (rs : List Register) → length (registers_words i 
 unfolding registers_words register_words
 registers_length zero rs = refl
 registers_length (suc i) rs =
-    omega (arith, registers_length i rs, length-append (registers_words i rs) (register_words (get_or rs i empty_register)))
+    omega (
+      arith,
+      registers_length i rs,
+      length-append (registers_words i rs)
+          (register_words (get_or rs i empty_register)),
+    )
 
 pub registers_start : {l : List ℕ} {at : ℕ} {rs : List Register} → RegistersLoop l at rs l 0 at
 unfolding registers_words
@@ -51,7 +56,8 @@ module _ {l : List ℕ} {at : ℕ} {rs : List Register} {l' : List ℕ} {i e : �
   registers_room p k h = omega (arith, p.length, p.place)
 
   pub registers_step : {l'' : List ℕ} {f : ℕ} → at + registers_size ≤ length l → RegistersLoop l at rs l' i e
-      → i < 16 → WriteEnsures l' e (register_words (get_or rs i empty_register)) l'' f → RegistersLoop l at rs l'' (i + 1) f
+      → i < 16 → WriteEnsures l' e (register_words (get_or rs i empty_register)) l'' f
+      → RegistersLoop l at rs l'' (i + 1) f
   unfolding registers_words register_words
   registers_step h p k w = record {
     within = omega arith;

@@ -50,19 +50,24 @@ all_touching d (c ∷ cs) = touching d c && all_touching d cs
 
 -- computed with 3 indices
 with_three : AllHold 3 table × (all_touching 3 table ≡ true)
-unfolding touching all_touching growSession.qubits_below growSession.touches growSession.all_touch growSession.lines_touch
+unfolding touching all_touching growSession.qubits_below growSession.touches growSession.all_touch
+    growSession.lines_touch
     growSession.reading_touches text.same_bytes text.onto text.parts text.lines text.fields number.is_digit
     number.digits_from number.needless number.number_of names.choose_name names.one_qubit names.two_qubits words.word_of
-    args.numbers args.by_count call.check_register call.check_range call.check_apart call.call_of textGate.gate_call_fields
+    args.numbers args.by_count call.check_register call.check_range call.check_apart call.call_of
+    textGate.gate_call_fields
     line.call_fields line.read_line print.digits print.decimal answer.line_of_fields answer.printed check.header_numbers
-    check.header_fields check.header_of check.ensured check.gate_item_of check.gate_item_fields check.item_of check.with_first
-    check.with_second check.second_item check.second_list check.first_item check.first_list check.after_header check.read_lines
+    check.header_fields check.header_of check.ensured check.gate_item_of check.gate_item_fields check.item_of
+    check.with_first
+    check.with_second check.second_item check.second_list check.first_item check.first_list check.after_header
+    check.read_lines
     check.read_text ruling.printed_ruling session.empty_tally session.node_count session.refuse session.accept
     session.settle session.with_tensor session.with_register session.answer session.empty_run session.with_answer
     session.stopped_run session.run session.session qubits.middles verdictSession.low_calls verdictSession.gate_calls
     verdictSession.at_line verdictSession.gates_calls verdictSession.list_calls verdictSession.session_calls
     verdictSession.continue_with verdictSession.perform verdictSession.ruling_at_end verdictSession.ruling_of_reading
-    verdictSession.ruling_on verdictSession.verdict_result tensor.at tensor.bits tensor.value tensor.same tensor.constant
+    verdictSession.ruling_on verdictSession.verdict_result tensor.at tensor.bits tensor.value tensor.same
+    tensor.constant
     tensor.top tensor.fix tensor.depends tensor.is_zero tensor.first tensor.joined tensor.scale tensor.normal
     tensor.multiple tensor.plus tensor.top2 tensor.times tensor.members tensor.power2 tensor.assign tally.return
     tally.◌>>=◌ tally.member tally.put tally.join_cases tally.join tally.both tally.sum_cases tally.sum_body tally.sum
@@ -72,7 +77,8 @@ unfolding touching all_touching growSession.qubits_below growSession.touches gro
     diagramGate.entry diagramGate.gate_tensor diagramGate.straight diagramGate.unit_entry diagramGate.unit_tensor
     tabulate.tabulate descend.descend_f descend.descend descend.top_measure descend.on_top descend.on_top2 compare.ratio
     compare.compared weight.to_weight weight.0w weight.1w weight.plus_w weight.times_w weight.negate_w weight.same_w
-    weight.ones_power weight.inverse_w weight.eighth_root weight.imaginary_unit weight.root_two weight.inverse_root_two xor
+    weight.ones_power weight.inverse_w weight.eighth_root weight.imaginary_unit weight.root_two weight.inverse_root_two
+    xor
 with_three = (
   (refl, (refl, (refl, (refl, (refl, (refl, (refl, (refl, (refl, (refl, (refl, (refl, (refl, (refl, (refl, (refl, tt)))))))))))))))),
   refl,

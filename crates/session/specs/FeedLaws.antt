@@ -1,6 +1,8 @@
 -- Bytes taken in one after the other, and the input's last line.
-use Rattle.std.specs.Prelude.{◌≡◌, refl, ◌≢◌, Bool, true, false, cond, List, [], ◌∷◌, ◌++◌, ℕ, ◌+◌, ◌≤◌, ◌<◌, eqb, length, take, get_or}
-use Rattle.std.proofs.Common.{ap, sym, ◌∙◌, append-nil, append_assoc, add-one, arith, ne_eqb, le-leb, length-append, take-suc, take_all, length-take-le}
+use Rattle.std.specs.Prelude.{◌≡◌, refl, ◌≢◌, Bool, true, false, cond, List, [], ◌∷◌, ◌++◌, ℕ, ◌+◌, ◌≤◌, ◌<◌, eqb}
+use Rattle.std.specs.Prelude.{length, take, get_or}
+use Rattle.std.proofs.Common.{ap, sym, ◌∙◌, append-nil, append_assoc, add-one, arith, ne_eqb, le-leb, length-append}
+use Rattle.std.proofs.Common.{take-suc, take_all, length-take-le}
 use Rattle.diagram.specs.Node.{capacity}
 use Rattle.text.specs.Text.{Bytes, LF, tab, lines, parts, onto}
 use Rattle.text.specs.Answer.{printed}

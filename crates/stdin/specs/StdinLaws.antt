@@ -46,7 +46,8 @@ pub more_of : (k : ℕ) → (k ≡ 0 → ⊥) → More ≡ next_of (pos k)
 more_of zero h = absurd (h refl)
 more_of (suc k) h = refl
 
-pub bytes_read : (n : ℕ) {k : ℕ} {x : Next} → k ≤ n → x ≡ next_of (pos k) → PossibleRead n (record { count = k; next = x })
+pub bytes_read : (n : ℕ) {k : ℕ} {x : Next} → k ≤ n → x ≡ next_of (pos k)
+    → PossibleRead n (record { count = k; next = x })
 bytes_read n {k} {x} h e =
     let least : k ≡ min k n = omega arith in
     let counted : ℕ → ReadResult = λ m. record { count = m; next = x } in

@@ -1,6 +1,7 @@
 -- A line of another count of numbers: the arm of a `let .. else` or a `match` for all the other cases of Args.
 use Rattle.std.proofs.Common.{◌≡◌, ℕ, refl}
-use Rattle.text.specs.Args.{by_count, no_numbers, one_number, two_numbers, three_numbers, four_numbers, one_or_two_numbers}
+use Rattle.text.specs.Args.{by_count, no_numbers, one_number, two_numbers, three_numbers, four_numbers}
+use Rattle.text.specs.Args.{one_or_two_numbers}
 use Rattle.text.specs.declared.args.Args.{Args}
 use Rattle.text.specs.declared.args.Args.TheVariants.{Wrong, None, One, Two, Three, Four}
 

@@ -1,7 +1,8 @@
 -- Demand 3, sentence by sentence: what a session leaves agrees with the tally's run, at its end and after each of its
 -- lines.
 use Rattle.std.proofs.Math.Option.{Option, none, some}
-use Rattle.std.specs.Prelude.{Bool, true, false, ◌≡◌, ◌↔◌, List, [], ℕ, ◌^◌, ◌<◌, ◌-◌, ◌*◌, ◌≤◌, suc, get_or, length, take}
+use Rattle.std.specs.Prelude.{Bool, true, false, ◌≡◌, ◌↔◌, List, [], ℕ, ◌^◌, ◌<◌, ◌-◌, ◌*◌, ◌≤◌, suc, get_or, length}
+use Rattle.std.specs.Prelude.{take}
 use Rattle.diagram.specs.Tensor.{indices, Tensor, value, top, fix, Normal, scale, index_count}
 use Rattle.diagram.specs.Tally.{Set}
 use Rattle.diagram.specs.Node.{node_at, listed}
@@ -18,7 +19,7 @@ use Rattle.text.specs.Session.{node_count, Tally, TallyRun, Capacity, answer, ru
 use Rattle.diagram.specs.declared.registers.Register.{Register}
 use Rattle.text.specs.declared.progress.SessionResult.{SessionResult}
 
--- the tensors of the nodes from 1 up, read off the store's bytes; node 0 is the constant 1 (tensorAt)
+-- the tensors of the nodes from 1 up, read off the store's bytes; node 0 is the constant 1 (tensor_at)
 unfoldable pub node_tensors : Bytes → ℕ → Set indices
 node_tensors s count = tensors indices (listed (node_at s) count)
 
@@ -138,7 +139,7 @@ pub record AgreesThroughout (c : Capacity) (ls : List Bytes) (t : TallyRun indic
   pub first : SessionResult
   pub passes : Passes c o ls t from first s o' (before_stop r)
 
--- what a run passes after j lines, and by the line after those (the laws: after-each-line, each-line)
+-- what a run passes after j lines, and by the line after those (the laws: after_each_line, each_line)
 pub record Point (c : Capacity) (o : Bytes) (ls : List Bytes) (t : TallyRun indices) (j : ℕ) : Type 0 where
   pub store : Bytes
   pub output : Bytes

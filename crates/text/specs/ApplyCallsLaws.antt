@@ -1,8 +1,10 @@
 -- A gate's calls are one step, `apply_step`, and are refused exactly where it does not fit.
 use Rattle.std.proofs.Math.Option.{some, none, Option}
-use Rattle.std.specs.Prelude.{◌≡◌, Bool, true, cond, List, [], ◌∷◌, ◌++◌, ℕ, ◌-◌, ◌≤◌, suc, ◌+◌, ◌*◌, ◌<◌, set, length, get_or}
+use Rattle.std.specs.Prelude.{◌≡◌, Bool, true, cond, List, [], ◌∷◌, ◌++◌, ℕ, ◌-◌, ◌≤◌, suc, ◌+◌, ◌*◌, ◌<◌, set, length}
+use Rattle.std.specs.Prelude.{get_or}
 use Rattle.std.proofs.Math.Path.{refl}
-use Rattle.std.proofs.Common.{sym, ◌∙◌, append_assoc, arith, length-set, leb-false, set-set, get_or-set_same, get_or-set_other}
+use Rattle.std.proofs.Common.{sym, ◌∙◌, append_assoc, arith, length-set, leb-false, set-set, get_or-set_same}
+use Rattle.std.proofs.Common.{get_or-set_other}
 use Rattle.std.proofs.Math.Bool.{false}
 use Rattle.std.proofs.lemmas.Bool.{lt-leb}
 use Rattle.std.proofs.lemmas.List.{set-get_or, set_comm}

@@ -109,7 +109,8 @@ cached_requires w = record { sound = w.step.sound; left = w.step.valid; right = 
 
 -- one fresh index
 
-pub rename_allowed : {s : List ℕ} {st : State} {a : Edge} {q : ℕ} → q < most_qubits → Free (3 * q + 1) (tensor_of s st a)
+pub rename_allowed : {s : List ℕ} {st : State} {a : Edge} {q : ℕ} → q < most_qubits
+    → Free (3 * q + 1) (tensor_of s st a)
     → LowerRequires s st a (3 * q + 2)
 rename_allowed {q = q} p f =
     let e : 3 * q + 2 - 1 ≡ 3 * q + 1 = omega arith in record { first = omega arith; last = omega arith; free = rw e f }

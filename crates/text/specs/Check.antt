@@ -26,7 +26,8 @@ header_numbers = one_number Bad (λ n. cond (leb 1 n && leb n most_qubits) (Of n
 
 unfoldable pub header_fields : List Bytes → Header
 header_fields [] = Bad
-header_fields (word ∷ more) = cond (same_bytes word (bytes "lines")) (header_numbers (numbers most_digits None more)) Bad
+header_fields (word ∷ more) = cond (same_bytes word (bytes "lines")) (header_numbers (numbers most_digits None more))
+    Bad
 
 unfoldable pub header_of : Bytes → Header
 header_of line = header_fields (fields line)
@@ -170,7 +171,8 @@ checked_at_end n parting count = cond (eqb parting 0) (Faulty Parting (count + 1
 unfoldable pub check_lines : ℕ → ℕ → ℕ → List Bytes → CheckResult
 check_lines n parting count [] = checked_at_end n parting count
 check_lines n parting count (line ∷ ls) =
-    continue_check (parting_after (item_of n line) parting (count + 1)) (count + 1) (λ p. check_lines n p (count + 1) ls)
+    continue_check (parting_after (item_of n line) parting (count + 1)) (count + 1)
+    (λ p. check_lines n p (count + 1) ls)
 
 -- `check_lines` has read `count` lines, up to a.
 pub record CheckLoop (n : ℕ) (s : Bytes) (a0 a count parting : ℕ) : Type 0 where

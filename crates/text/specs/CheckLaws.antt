@@ -7,7 +7,8 @@ use Rattle.text.specs.Text.{Bytes, bytes, same_bytes, fields, tab}
 use Rattle.text.specs.Limits.{most_qubits, most_digits}
 use Rattle.text.specs.Args.{numbers}
 use Rattle.text.specs.Names.{one_qubit, two_qubits}
-use Rattle.text.specs.Check.{ensured, PlacedItem, one_qubit_item, two_qubit_item, gate_item_of, gate_item_fields, item_of}
+use Rattle.text.specs.Check.{ensured, PlacedItem, one_qubit_item, two_qubit_item, gate_item_of, gate_item_fields}
+use Rattle.text.specs.Check.{item_of}
 use Rattle.text.specs.Check.{ItemRead, GateRead, header_numbers, header_fields, HeaderInRange, header_of, HeaderRead}
 use Rattle.text.specs.Split.{part, Ends, fields_after}
 use Rattle.text.specs.SplitLaws.{fields_first}

@@ -104,10 +104,12 @@ text_items {s} {n} {e} {gs} {hs} t r =
         rw (same, firsts, seconds) at f.1
     listed m (fault g at) q f = let z : ◌≡◌ {A = ℕ} 0 1 = cc in absurd (omega arith)
 
-    there : (h : Header) → after_header h ls ≡ lists n gs hs → items n ls ≡ gate_items gs ++ (item.Parting ∷ gate_items hs)
+    there : (h : Header) → after_header h ls ≡ lists n gs hs
+        → items n ls ≡ gate_items gs ++ (item.Parting ∷ gate_items hs)
     there Bad q = let z : ◌≡◌ {A = ℕ} 0 1 = cc in absurd (omega arith)
     there (Of m) q = listed m (first_list m 2 ls) q (first_items m 2 ls)
 
     none : length s ≤ 0 → ⊥
     none h =
-        let f : read_lines [] ≡ lists n gs hs = rw (lines_none s 0 h) at t in let z : ◌≡◌ {A = ℕ} 0 1 = cc in omega arith
+        let f : read_lines []
+        ≡ lists n gs hs = rw (lines_none s 0 h) at t in let z : ◌≡◌ {A = ℕ} 0 1 = cc in omega arith

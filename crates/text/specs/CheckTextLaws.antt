@@ -1,5 +1,6 @@
 -- A verdict text checked line by line, with the numbers of lines alone, is what the definition says.
-use Rattle.std.specs.Prelude.{◌≡◌, refl, List, [], ◌∷◌, Bool, true, false, cond, ℕ, ◌+◌, suc, ◌≤◌, ◌<◌, length, drop, eqb}
+use Rattle.std.specs.Prelude.{◌≡◌, refl, List, [], ◌∷◌, Bool, true, false, cond, ℕ, ◌+◌, suc, ◌≤◌, ◌<◌, length, drop}
+use Rattle.std.specs.Prelude.{eqb}
 use Rattle.std.proofs.Common.{ap, ◌∙◌, arith, add-one, ne_eqb, eq-eqb}
 use Rattle.text.specs.Text.{Bytes, LF, lines}
 use Rattle.text.specs.Limits.{most_qubits}

@@ -28,7 +28,8 @@ unfolding gate_call_fields
 gate_short {s} {e} {f} h r n = rw (rest_first h r, rest_none s f n)
 
 pub gate_fields : {s : Bytes} {e f g : ℕ} → e < length s → Ends tab s (e + 1) f → f < length s → Ends tab s (f + 1) g
-    → gate_call_of (number_of most_digits (part s (e + 1) f)) (part s (f + 1) g) (numbers most_digits None (fields_after s g))
+    → gate_call_of (number_of most_digits (part s (e + 1) f)) (part s (f + 1) g)
+    (numbers most_digits None (fields_after s g))
     ≡ gate_call_fields (fields_after s e)
 unfolding gate_call_fields
 gate_fields h r n q = rw (rest_first h r, rest_first n q)

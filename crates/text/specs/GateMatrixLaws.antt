@@ -1,5 +1,6 @@
 -- A gate applied to a list's tensor multiplies by its matrix.
-use Rattle.std.specs.Prelude.{List, [], ◌∷◌, ◌≡◌, refl, cond, false, ◌&&◌, ◌||◌, Bool, true, ℕ, ◌-◌, min, max, suc, ◌*◌, ◌<◌, ◌+◌, ◌/◌, ◌%◌, ◌≤◌, ◌^◌, zero, eqb}
+use Rattle.std.specs.Prelude.{List, [], ◌∷◌, ◌≡◌, refl, cond, false, ◌&&◌, ◌||◌, Bool, true, ℕ, ◌-◌, min, max, suc, ◌*◌}
+use Rattle.std.specs.Prelude.{◌<◌, ◌+◌, ◌/◌, ◌%◌, ◌≤◌, ◌^◌, zero, eqb}
 use Rattle.std.proofs.Common.{sym, ◌∙◌, ap₂, ap, arith, eq-eqb, ne_eqb}
 use Rattle.std.proofs.Math.Path.{fun_ext}
 use Rattle.std.proofs.Math.Bool.{and-false}
@@ -48,7 +49,8 @@ rising_below n least (q ∷ qs) r = (omega arith, rising_below n (suc q) qs r.2)
 pub entry_alike : (g : Gate) (x y : Bits) → Each (AgreeOn x y) (qubits g) → entry g x ≡ entry g y
 entry_alike g x y e = let h = both (shape g) e in agree_entry g x y h.0 h.1
   where
-    both : (s : Shape) → Each (AgreeOn x y) (qubits_on s) → AgreeOn x y (first_qubit_on s) × AgreeOn x y (second_qubit_on s)
+    both : (s : Shape) → Each (AgreeOn x y) (qubits_on s)
+        → AgreeOn x y (first_qubit_on s) × AgreeOn x y (second_qubit_on s)
     both (One q) e = (e.0, e.0)
     both (Two a b) e = min_max (AgreeOn x y) a b e.0 e.1.0
 
@@ -121,7 +123,8 @@ mask d least (q ∷ qs) r k = go (mask d (suc q) qs r.2)
           | no z ↦ bit_other (3 * q + 1) k (middles qs) z e ∙ ih k ∙ apart k z
         ]
 
-pub gate_masked : (n : ℕ) (g : Gate) → Placed n g → (q : ℕ) → Masked (bits (middles (qubits g))) (has_qubit (qubits g)) q
+pub gate_masked : (n : ℕ) (g : Gate) → Placed n g → (q : ℕ)
+    → Masked (bits (middles (qubits g))) (has_qubit (qubits g)) q
 gate_masked n g p q =
     let m = mask (3 * n) 0 (qubits g) (gate_rising (3 * n) n g (omega arith) p) in
     let third : suc (3 * q) / 3 ≡ q = omega arith in
@@ -204,7 +207,8 @@ gate_applied {d} n g T f p l =
 
 -- What the gate's matrix does on the left of a matrix: the entries are added over the gate's qubits.
 pub gate_product : (n : ℕ) (g : Gate) (M : Operator) (o i : BasisState) → Placed n g → Sees n (λ m. M m i)
-    → product n (gate_matrix n g) M o i ≡ settings n (has_qubit (qubits g)) (λ m. times_w (entry g (wires o m)) (M m i)) o
+    → product n (gate_matrix n g) M o i
+    ≡ settings n (has_qubit (qubits g)) (λ m. times_w (entry g (wires o m)) (M m i)) o
 unfolding product gate_matrix
 gate_product n g M o i p s =
     states_same n (λ m. cond_times (others n (qubits g) o m) (entry g (wires o m)) (M m i))

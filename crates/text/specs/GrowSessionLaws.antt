@@ -55,7 +55,8 @@ gate_fits d g e = on (shape g) e
         (omega arith, omega arith)
 
 module _ {d : ℕ} (m : ℕ) where
-  grow_get : (l : List (Option (Tensor d))) (a : ℕ) → get_or (grow_registers m l) a none ≡ grow_register m (get_or l a none)
+  grow_get : (l : List (Option (Tensor d))) (a : ℕ)
+      → get_or (grow_registers m l) a none ≡ grow_register m (get_or l a none)
   unfolding grow_registers grow_register
   grow_get [] a = refl
   grow_get (o ∷ l) zero = refl
@@ -282,7 +283,8 @@ session_grows d m c room text e =
     rw (← grow_start d m) (grow_run_lem m c room (lines text)
     (record { code = 0; answered = 0; output = []; tally = empty_tally }) e)
 
-ruling_grows : {d : ℕ} (m : ℕ) (c : Capacity) (x : PerformResult d) → ruling_at_end c (grow_result m x) ≡ ruling_at_end c x
+ruling_grows : {d : ℕ} (m : ℕ) (c : Capacity) (x : PerformResult d)
+    → ruling_at_end c (grow_result m x) ≡ ruling_at_end c x
 unfolding ruling_at_end touches
 ruling_grows m c (refused_at line r) = refl
 ruling_grows m c (ended_with t) =
@@ -297,7 +299,8 @@ ruling_of_reading_grows d m c (lists n gs hs) e =
     (ruling_grows m c (perform c (session_calls n gs hs) empty_tally))
 
 -- With more indices a verdict whose session touches only the lowest is the same.
-pub verdict_result_grows : (d m : ℕ) (c : Capacity) (room : ℕ) (text : List ℕ) → reading_touches d (read_text text) ≡ true
+pub verdict_result_grows : (d m : ℕ) (c : Capacity) (room : ℕ) (text : List ℕ)
+    → reading_touches d (read_text text) ≡ true
     → verdict_result (deeper d m) c room text ≡ verdict_result d c room text
 unfolding verdict_result ruling_on
 verdict_result_grows d m c room text e = rw (ruling_of_reading_grows d m c (read_text text) e)

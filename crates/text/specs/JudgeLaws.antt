@@ -119,7 +119,8 @@ module _ {text : Bytes} {n parting count : ℕ} (g : GoodText text n parting cou
     long = omega (arith, g.place);
   }
 
-  pub first_ahead : {e : Engine} → ListRequires first_gates (record { refused = false; line = 0; place = 0; engine = e })
+  pub first_ahead : {e : Engine}
+      → ListRequires first_gates (record { refused = false; line = 0; place = 0; engine = e })
   first_ahead = record {
     ahead = record { not_refused = refl; inside = text_some text g.text; passed = omega arith };
     first = g.first;

@@ -12,7 +12,8 @@ use Rattle.text.specs.declared.call.Call.{Call}
 unfoldable pub call_fields : List Bytes → Call
 call_fields [] = malformed
 call_fields (word ∷ more) =
-    cond (same_bytes word (bytes "gate")) (gate_call_fields more) (call_of (word_of word) (numbers most_digits None more))
+    cond (same_bytes word (bytes "gate")) (gate_call_fields more)
+    (call_of (word_of word) (numbers most_digits None more))
 
 -- the call that a line is, or its refusal
 unfoldable pub read_line : Bytes → Call

@@ -1,5 +1,6 @@
 -- Numbers (document 01, "Session calls"), and how the code reads them.
-use Rattle.std.specs.Prelude.{Bool, ◌&&◌, cond, false, not, [], ◌∷◌, ◌≡◌, ℕ, ◌+◌, ◌*◌, ◌-◌, ◌^◌, ◌≤◌, ◌<◌, leb, eqb, length, drop}
+use Rattle.std.specs.Prelude.{Bool, ◌&&◌, cond, false, not, [], ◌∷◌, ◌≡◌, ℕ, ◌+◌, ◌*◌, ◌-◌, ◌^◌, ◌≤◌, ◌<◌, leb, eqb}
+use Rattle.std.specs.Prelude.{length, drop}
 use Rattle.text.specs.Text.{Bytes}
 use Rattle.text.specs.declared.number.Number.{Number}
 use Rattle.text.specs.declared.number.Number.TheVariants.{Malformed, Of}

@@ -1,5 +1,6 @@
 -- Laws of Number: digit by digit.
-use Rattle.std.specs.Prelude.{◌≡◌, refl, false, true, ◌&&◌, [], ◌∷◌, ℕ, ◌+◌, ◌*◌, ◌-◌, ◌≤◌, ◌<◌, length, get_or, drop, eqb, leb}
+use Rattle.std.specs.Prelude.{◌≡◌, refl, false, true, ◌&&◌, [], ◌∷◌, ℕ, ◌+◌, ◌*◌, ◌-◌, ◌≤◌, ◌<◌, length, get_or, drop}
+use Rattle.std.specs.Prelude.{eqb, leb}
 use Rattle.std.proofs.Common.{sym, ◌∙◌, add-one, arith, pow-suc, drop_of_length-le, drop-cons, le-leb}
 use Rattle.std.proofs.Math.Bool.{and-false}
 use Rattle.std.proofs.Math.Nat.{pow-le-pow_right}
@@ -29,7 +30,8 @@ digits_end v s i h = rw (drop_of_length-le s h)
 pub read_digits_loop_start : {s : Bytes} → ReadDigitsLoop s 0 0
 read_digits_loop_start = record { within = omega arith; small = omega arith; same = refl }
 
-pub read_digits_loop_next : {s : Bytes} {v i : ℕ} → ReadDigitsLoop s v i → i < length s → 48 ≤ get_or s i 0 → get_or s i 0
+pub read_digits_loop_next : {s : Bytes} {v i : ℕ} → ReadDigitsLoop s v i → i < length s → 48 ≤ get_or s i 0
+    → get_or s i 0
     ≤ 57
     → ReadDigitsLoop s (10 * v + (get_or s i 0 - 48)) (i + 1)
 read_digits_loop_next {s} {v} {i} r h p q =

@@ -21,7 +21,8 @@ ruling_from c line more s r = cond r.refused (No Full line) (ruling_at_end c (pe
 pub record PerformsCalls (s c' s' : List ℕ) (a : PerformState) (xs : List Call) (r : PerformState) : Type 0 where
   pub invariant : EngineInvariant c' s' r.engine
   pub is : (line : ℕ) (more : List NumberedCall)
-      → ruling_from (at_most (capacity s)) line (at_line line xs ++ more) s a ≡ ruling_from (at_most (capacity s)) line more
+      → ruling_from (at_most (capacity s)) line (at_line line xs ++ more) s a
+      ≡ ruling_from (at_most (capacity s)) line more
       s' r
 
 -- "`drop 2`, `collect`"

@@ -1,5 +1,6 @@
 -- Digits determine a number, and a field ends at its tab or LF.
-use Rattle.std.specs.Prelude.{◌≡◌, ◌∷◌, [], ◌++◌, Bool, true, false, cond, ℕ, ◌+◌, suc, ◌/◌, ◌%◌, ◌≤◌, ◌<◌, zero, ◌^◌, length, ltb}
+use Rattle.std.specs.Prelude.{◌≡◌, ◌∷◌, [], ◌++◌, Bool, true, false, cond, ℕ, ◌+◌, suc, ◌/◌, ◌%◌, ◌≤◌, ◌<◌, zero, ◌^◌}
+use Rattle.std.specs.Prelude.{length, ltb}
 use Rattle.std.proofs.Math.Path.{refl}
 use Rattle.std.proofs.Common.{ap, sym, ◌∙◌, arith, pow-suc, length-append, lt-ltb, le-ltb}
 use Rattle.std.proofs.Math.Decide.{dec_lt}

@@ -147,7 +147,8 @@ module _ (d n : ℕ) (gs hs : List Gate) (p : AllPlaced n gs) (q : AllPlaced n h
   -- Two lists' tensors are the same exactly when the products of their gates' matrices are.
   pub lists_same : (applied_list gs (unit_tensor d n) ≡ applied_list hs (unit_tensor d n))
       ↔ ((o i : BasisState) → list_matrix n gs o i ≡ list_matrix n hs o i)
-  lists_same = has_exactly _ _ (list_matrix n gs) (list_matrix n hs) (list_matrix_lem d n gs p l) (list_matrix_lem d n hs q l)
+  lists_same = has_exactly _ _ (list_matrix n gs) (list_matrix n hs) (list_matrix_lem d n gs p l)
+      (list_matrix_lem d n hs q l)
 
   -- One is w times the other exactly when its product is.
   pub lists_multiple : (w : Weight)

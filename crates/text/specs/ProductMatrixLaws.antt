@@ -1,5 +1,6 @@
 -- Sums over basis states: over all of them, over the settings of some qubits, and the product of matrices as such sums.
-use Rattle.std.specs.Prelude.{◌≡◌, refl, Bool, true, false, cond, ◌&&◌, ◌||◌, List, [], ℕ, zero, suc, ◌+◌, ◌^◌, ◌≤◌, ◌<◌}
+use Rattle.std.specs.Prelude.{◌≡◌, refl, Bool, true, false, cond, ◌&&◌, ◌||◌, List, [], ℕ, zero, suc, ◌+◌, ◌^◌, ◌≤◌}
+use Rattle.std.specs.Prelude.{◌<◌}
 use Rattle.std.proofs.Common.{◌∙◌, ap, sym, ap₂, add-zero, add-suc, arith}
 use Rattle.std.proofs.Math.Path.{fun_ext}
 use Rattle.std.proofs.Math.Decide.{ℕ_discrete}
@@ -231,7 +232,8 @@ collapse (suc n) qs h o x e = go (has_qubit qs n) refl (o n) refl (λ o x e. col
         ]
 
     Step : Type 0
-    Step = (o x : BasisState) → ((k : ℕ) → n ≤ k → x k ≡ o k) → settings n all (rest o) x ≡ settings n (has_qubit qs) h o
+    Step = (o x : BasisState) → ((k : ℕ) → n ≤ k → x k ≡ o k)
+        → settings n all (rest o) x ≡ settings n (has_qubit qs) h o
 
     each : (b : Bool) → has_qubit qs n ≡ true → Step
         → settings n all whole (assign n b x) ≡ settings n (has_qubit qs) h (assign n b o)
@@ -253,7 +255,8 @@ collapse (suc n) qs h o x e = go (has_qubit qs n) refl (o n) refl (λ o x e. col
 
     go : (c : Bool) → has_qubit qs n ≡ c → (b : Bool) → o n ≡ b → Step
         → plus_w (settings n all whole (assign n false x)) (settings n all whole (assign n true x))
-        ≡ cond c (plus_w (settings n (has_qubit qs) h (assign n false o)) (settings n (has_qubit qs) h (assign n true o)))
+        ≡ cond c (plus_w (settings n (has_qubit qs) h (assign n false o))
+        (settings n (has_qubit qs) h (assign n true o)))
         (settings n (has_qubit qs) h o)
     go true t b u ih = ap₂ plus_w (each false t ih) (each true t ih)
     go false t true u ih = ap₂ plus_w (gone false (rw (t, u))) (same true t u ih) ∙ plus_w_zero _

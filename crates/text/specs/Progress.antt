@@ -97,6 +97,7 @@ pub record ResumeLoop (text : Bytes) (limit : ℕ) (e : Engine) (s₀ : List ℕ
   pub untouched : drop p.bytes o ≡ drop p.bytes o₀
   pub now : run (at_most (capacity s₀)) (length o₀) (take p.lines (take limit (lines text))) (run_from (tally_of s₀ e))
       ≡ run_of s o p
-  pub passes : Passes (at_most (capacity s₀)) o₀ (take limit (lines text)) (run_from (tally_of s₀ e)) s₀ (result_at_start e)
+  pub passes : Passes (at_most (capacity s₀)) o₀ (take limit (lines text)) (run_from (tally_of s₀ e)) s₀
+      (result_at_start e)
       s
       o (before_stop (result_of p))

@@ -1,5 +1,6 @@
 -- Laws of Qubits: the mask of the middles, and a placed gate's qubits.
-use Rattle.std.specs.Prelude.{◌≡◌, refl, true, false, List, [], ◌∷◌, ℕ, ◌≤◌, ◌<◌, min, max, ◌+◌, ◌*◌, ◌^◌, ◌%◌, suc, ◌/◌, zero, eqb}
+use Rattle.std.specs.Prelude.{◌≡◌, refl, true, false, List, [], ◌∷◌, ℕ, ◌≤◌, ◌<◌, min, max, ◌+◌, ◌*◌, ◌^◌, ◌%◌, suc}
+use Rattle.std.specs.Prelude.{◌/◌, zero, eqb}
 use Rattle.std.proofs.Common.{ap, sym, subst, ◌∙◌, arith, pow-suc, eq-eqb}
 use Rattle.std.proofs.Math.Pow.{pow-lt}
 use Rattle.std.proofs.lemmas.Bool.{eqb-false}

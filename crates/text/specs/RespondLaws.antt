@@ -284,7 +284,8 @@ small_comparison A B compare.Differ n = tt
 
 -- a call that answers n and leaves everything as it was
 answers_only : {c s : List ℕ} {e : Engine} {x : Call} {n : Answer} → EngineInvariant c s e → SmallAnswer n
-    → answer (at_most (capacity s)) x (tally_of s e) ≡ (n, tally_of s e) → Forgets x c (record { answer = n; engine = e })
+    → answer (at_most (capacity s)) x (tally_of s e) ≡ (n, tally_of s e)
+    → Forgets x c (record { answer = n; engine = e })
     → RespondEnsures c s s e x (record { answer = n; engine = e })
 answers_only p small is forgets =
     record {

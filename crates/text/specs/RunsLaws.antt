@@ -1,5 +1,6 @@
 -- Laws of Runs: a list's calls run through, and its register ends with its tensor.
-use Rattle.std.specs.Prelude.{◌≡◌, refl, Bool, true, false, cond, ℕ, ◌-◌, ◌+◌, suc, ◌*◌, ◌≤◌, ◌<◌, leb, length, set, get_or}
+use Rattle.std.specs.Prelude.{◌≡◌, refl, Bool, true, false, cond, ℕ, ◌-◌, ◌+◌, suc, ◌*◌, ◌≤◌, ◌<◌, leb, length, set}
+use Rattle.std.specs.Prelude.{get_or}
 use Rattle.std.proofs.Common.{ap, ◌∙◌}
 use Rattle.std.proofs.Math.Option.{some, Option, none}
 use mathlib.Core.List.{List, [], ◌∷◌, ◌++◌}
@@ -176,7 +177,8 @@ module _ {d : ℕ} (r j : ℕ) (o : Option (Tensor d)) (r_small : r < 2) (j-smal
   low_calls_run c line least G T (q ∷ qs) t u f w =
       let e : 3 * q + 2 - 1 ≡ 3 * q + 1 = omega arith in
       runs_on (HoldsGate r (rename_down (3 * q + 2) T) j o G)
-      (HoldsGate r (renamed_tensor qs (rename_down (3 * q + 2) T)) j o G) line (perform c (at_line line (low_calls r qs)))
+      (HoldsGate r (renamed_tensor qs (rename_down (3 * q + 2) T)) j o G) line
+      (perform c (at_line line (low_calls r qs)))
       (low_call_runs c G T (3 * q + 2) t (omega arith) u.1 (rw e f.0) w)
       (λ t w. low_calls_run c line (suc q) G (rename_down (3 * q + 2) T) qs t u.2
       (all_free_renamed (suc q) q qs T u.2 (omega arith) u.1 f.0 f.1) w)

@@ -2,7 +2,8 @@
 -- machine that sessions are compared with. It is fed the session's lines, the capacity and the length of the output,
 -- and nothing that the engine holds or answers." d is the number of indices: 24 in the engine, fewer where the checker
 -- computes a session.
-use Rattle.std.specs.Prelude.{Bool, true, cond, List, [], ◌++◌, ◌∷◌, ℕ, ◌-◌, suc, ◌+◌, leb, replicate, length, set, get_or}
+use Rattle.std.specs.Prelude.{Bool, true, cond, List, [], ◌++◌, ◌∷◌, ℕ, ◌-◌, suc, ◌+◌, leb, replicate, length, set}
+use Rattle.std.specs.Prelude.{get_or}
 use Rattle.std.proofs.Math.Option.{Option, none, some}
 use Rattle.diagram.specs.Tensor.{Tensor, bits, value, constant, depends}
 use Rattle.diagram.specs.Tally.{Set, sum, cont, low, build, collect, filled_tensors}

@@ -1,6 +1,8 @@
 -- Laws of Split: lines and fields, one after the other; two texts compared byte by byte.
-use Rattle.std.specs.Prelude.{◌≡◌, refl, List, ◌∷◌, [], ◌++◌, Bool, true, false, cond, ℕ, ◌+◌, ◌-◌, ◌≤◌, zero, suc, ◌<◌, drop, take, get_or, length, eqb}
-use Rattle.std.proofs.Common.{ap, sym, ◌∙◌, arith, add-one, drop_of_length-le, length-drop, drop-drop, drop-cons, take_all, eq-eqb, ne_eqb}
+use Rattle.std.specs.Prelude.{◌≡◌, refl, List, ◌∷◌, [], ◌++◌, Bool, true, false, cond, ℕ, ◌+◌, ◌-◌, ◌≤◌, zero, suc, ◌<◌}
+use Rattle.std.specs.Prelude.{drop, take, get_or, length, eqb}
+use Rattle.std.proofs.Common.{ap, sym, ◌∙◌, arith, add-one, drop_of_length-le, length-drop, drop-drop, drop-cons}
+use Rattle.std.proofs.Common.{take_all, eq-eqb, ne_eqb}
 use Rattle.std.proofs.Math.Bool.{and-false}
 use Rattle.std.proofs.Math.Decide.{dec_lt}
 use Rattle.text.specs.Text.{Bytes, onto, parts, fields, tab, LF, lines, same_bytes}

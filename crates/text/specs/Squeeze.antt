@@ -1,5 +1,6 @@
 -- A line of any length, cut to what its reading depends on, so that a small buffer holds it.
-use Rattle.std.specs.Prelude.{cond, [], ◌∷◌, ◌++◌, List, ◌≡◌, ◌≢◌, ℕ, suc, ◌+◌, ◌*◌, ◌≤◌, zero, eqb, ltb, take, length, get_or}
+use Rattle.std.specs.Prelude.{cond, [], ◌∷◌, ◌++◌, List, ◌≡◌, ◌≢◌, ℕ, suc, ◌+◌, ◌*◌, ◌≤◌, zero, eqb, ltb, take, length}
+use Rattle.std.specs.Prelude.{get_or}
 use Rattle.text.specs.Text.{Bytes, tab}
 use Rattle.text.specs.declared.squeeze.Squeeze.{Squeeze}
 

@@ -209,7 +209,8 @@ module _ {A : Type 0} (says : Args → A) (m : ℕ) (most : m ≤ 5)
       ∙ sym (same (numbers most_digits args (f ∷ fs)) (count_numbers args (f ∷ fs) m most (omega arith)))
   numbers_cut (suc n) args (f ∷ fs) h =
       ap (λ (x : Number). says (numbers most_digits (push_number args x) (trimmed n fs))) (number_cut f)
-      ∙ numbers_cut n (push_number args (number_of most_digits f)) fs (count_with args (number_of most_digits f) m n most h)
+      ∙ numbers_cut n (push_number args (number_of most_digits f)) fs
+      (count_with args (number_of most_digits f) m n most h)
 
 call_wrong : (w : Word) (x : Args) → 5 ≤ arg_count x → call_of w x ≡ call_of w Wrong
 call_wrong w Wrong h = refl
@@ -219,7 +220,8 @@ call_wrong w (Two a b) h = absurd (omega arith)
 call_wrong w (Three a b c) h = absurd (omega arith)
 call_wrong w (Four a b c d) h = absurd (omega arith)
 
-gate_wrong : (d : Number) (name : Bytes) (x : Args) → 3 ≤ arg_count x → gate_call_of d name x ≡ gate_call_of d name Wrong
+gate_wrong : (d : Number) (name : Bytes) (x : Args) → 3 ≤ arg_count x
+    → gate_call_of d name x ≡ gate_call_of d name Wrong
 unfolding by_count
 gate_wrong number.Malformed name x h = refl
 gate_wrong (number.Of d) name Wrong h = refl
@@ -240,7 +242,8 @@ gate_cut [] = refl
 gate_cut (d ∷ []) = refl
 gate_cut (d ∷ name ∷ qubits) =
     rw (number_cut d, name_cut (number_of most_digits d) name)
-    (numbers_cut (gate_call_of (number_of most_digits d) name) 3 (omega arith) (gate_wrong (number_of most_digits d) name) 3
+    (numbers_cut (gate_call_of (number_of most_digits d) name) 3 (omega arith)
+    (gate_wrong (number_of most_digits d) name) 3
     None qubits (omega arith))
 
 call_cut : (fs : List Bytes) → call_fields (trimmed 6 fs) ≡ call_fields fs

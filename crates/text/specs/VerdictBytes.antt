@@ -102,7 +102,8 @@ pub record VerdictBytes {X : Type 0} (Of : ℕ → List Gate → X → Type 0) (
   pub no_line_lem : (f : Fault) (line : ℕ) → RefusedAt (at_most (capacity s)) text f line → line ≤ length text + 1
   -- and of a text of any length the fault, and a line with these digits
   pub no_digits : (f : Fault) (line : ℕ)
-      → (bytes_of r o' ≡ no_line f line) ↔ ((l : ℕ) × (decimal l ≡ decimal line) × RefusedAt (at_most (capacity s)) text f
+      → (bytes_of r o' ≡ no_line f line)
+      ↔ ((l : ℕ) × (decimal l ≡ decimal line) × RefusedAt (at_most (capacity s)) text f
       l)
   -- and nothing else is ever written
   pub one_of_four : OneOfFour (bytes_of r o')

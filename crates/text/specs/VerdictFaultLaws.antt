@@ -83,7 +83,8 @@ fields_early : (n : ℕ) (fs : List Bytes) → EarlyItem (gate_item_fields n fs)
 unfolding gate_item_fields gate_item_of
 fields_early n [] = tt
 fields_early n (name ∷ qs) =
-    by_count_lem EarlyItem _ _ (λ q. one_qubit_item n q (one_qubit name q)) (λ p q. two_qubit_item n p q (two_qubits name p q)) _
+    by_count_lem EarlyItem _ _ (λ q. one_qubit_item n q (one_qubit name q))
+    (λ p q. two_qubit_item n p q (two_qubits name p q)) _
     _ tt tt
     (λ q. one_early n q (one_qubit name q)) (λ p q. two_early n p q (two_qubits name p q)) (λ a b c. tt) (λ a b c d. tt)
     (numbers 1 None qs)

@@ -132,6 +132,7 @@ pub full_line : {d : ℕ} (c : Capacity) (text : Bytes) {n : ℕ} {gs hs : List 
     → read_text text ≡ lists n gs hs
     → perform {d = d} c (session_calls n gs hs) empty_tally ≡ refused_at line r → line ≤ length text
 full_line c text {n} {gs} {hs} {line} {r} e q =
-    let m = perform_most c (2 + (length gs + length hs)) line r (session_calls n gs hs) (most_session n gs hs) empty_tally
+    let m = perform_most c (2 + (length gs + length hs)) line r (session_calls n gs hs) (most_session n gs hs)
+    empty_tally
     q in
     omega (arith, m, lists_lines text e)

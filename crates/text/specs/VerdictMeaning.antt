@@ -15,7 +15,7 @@ use Rattle.diagram.specs.declared.gate.Gate.{Gate}
 use Rattle.text.specs.declared.check.Fault.{Fault}
 use Rattle.text.specs.declared.ruling.Ruling.{Ruling}
 
--- the text is not refused as full: no call of its session is (verdict-refused in VerdictMeaningLaws)
+-- the text is not refused as full: no call of its session is (verdict_refused in VerdictMeaningLaws)
 abbrev pub NotFull : Capacity → Bytes → Type 0
 NotFull c text = (line : ℕ) → ruling_on indices c text ≢ No Full line
 
@@ -68,7 +68,8 @@ MatrixMultiples M N = (f : ℕ) × (MatrixIsTimes f M N ⊎ MatrixIsTimes f N M)
 pub record VerdictMatrices (c : Capacity) (text : Bytes) (n : ℕ) (gs hs : List Gate) : Type 0 where
   pub same : (ruling_on indices c text ≡ Same) ↔ EqualMatrices (list_matrix n gs) (list_matrix n hs)
   pub factor : ((f : ℕ) × (ruling_on indices c text ≡ Factor f))
-      ↔ ((¬ EqualMatrices (list_matrix n gs) (list_matrix n hs)) × MatrixMultiples (list_matrix n gs) (list_matrix n hs))
+      ↔ ((¬ EqualMatrices (list_matrix n gs) (list_matrix n hs))
+      × MatrixMultiples (list_matrix n gs) (list_matrix n hs))
   pub differ : (ruling_on indices c text ≡ Differ)
       ↔ ((¬ EqualMatrices (list_matrix n gs) (list_matrix n hs))
       × (¬ MatrixMultiples (list_matrix n gs) (list_matrix n hs)))

@@ -215,7 +215,8 @@ module _ (c : Capacity) (text : Bytes) {n : ℕ} {gs hs : List Gate} (e : read_t
   -- a good text is refused exactly where a call of its session is refused as full, at that call's line
   pub verdict_refused : (f : Fault) (line : ℕ)
       → (ruling_on indices c text ≡ No f line)
-      ↔ ((f ≡ faults.Full) × (perform {d = indices} c (session_calls n gs hs) empty_tally ≡ refused_at line refusal.Full))
+      ↔ ((f ≡ faults.Full)
+      × (perform {d = indices} c (session_calls n gs hs) empty_tally ≡ refused_at line refusal.Full))
   unfolding ruling_on ruling_of_reading
   verdict_refused f line =
       rw e (ruling_full c (session_runs c n gs hs (fit gs good.first) (fit hs good.second)) f line)

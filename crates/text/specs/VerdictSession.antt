@@ -77,7 +77,7 @@ unfoldable pub list_tensor : (d n : ℕ) → List Gate → Option (Tensor d)
 list_tensor d n gs = register_tensor 0 (perform unlimited (list_calls 0 n 1 gs) empty_tally)
 
 -- "then `cmp 0 1`": what its answer says. Its last four cases do not come: `cmp` is asked of filled registers
--- (ruling-judged in VerdictSessionLaws).
+-- (ruling_judged in VerdictSessionLaws).
 abbrev pub ruling_of_answer : Answer → Ruling
 ruling_of_answer answers.Same = Same
 ruling_of_answer (answers.Factor f) = Factor f
@@ -87,7 +87,7 @@ ruling_of_answer (answers.No r) = Differ
 ruling_of_answer (answers.Value w) = Differ
 ruling_of_answer (answers.Mask m) = Differ
 
--- "8 full, at the line being run". No other refusal comes (session-runs in VerdictSessionLaws).
+-- "8 full, at the line being run". No other refusal comes (session_runs in VerdictSessionLaws).
 unfoldable pub ruling_at_end : {d : ℕ} → Capacity → PerformResult d → Ruling
 ruling_at_end c (refused_at line r) = No Full line
 ruling_at_end c (ended_with t) = ruling_of_answer (answer c (call.Cmp 0 1) t).0

@@ -34,7 +34,8 @@ start_empty d = refl
 
 -- "A list's tensor is the one its register ends with at unlimited capacity": it is got from the unit by one gate after
 -- another
-pub list_tensor_lem : (d n : ℕ) (gs : List Gate) → AllFit d gs → list_tensor d n gs ≡ some (applied_list gs (unit_tensor d n))
+pub list_tensor_lem : (d n : ℕ) (gs : List Gate) → AllFit d gs
+    → list_tensor d n gs ≡ some (applied_list gs (unit_tensor d n))
 unfolding list_tensor
 list_tensor_lem d n gs u =
     go (list_runs 0 1 none (omega arith) (omega arith) (λ e. omega arith) unlimited n 1 gs empty_tally u
@@ -102,7 +103,11 @@ good_lists text {n} {gs} {hs} e = by_lines (lines text) e
         let same : m ≡ n = sym h.0 ∙ cc in
         let firsts : gs' ≡ gs = cc in
         let seconds : hs' ≡ hs = cc in
-        record { within_most_qubits = omega arith; first = rw (same, firsts) at h.1; second = rw (same, seconds) at h.2 }
+        record {
+          within_most_qubits = omega arith;
+          first = rw (same, firsts) at h.1;
+          second = rw (same, seconds) at h.2;
+        }
     by_reading m (fault f line) l h q = absurd (let z : ◌≡◌ {A = ℕ} 0 1 = cc in omega arith)
 
     by_header : (h : Header) → HeaderInRange h → (ls : List Bytes) → after_header h ls ≡ lists n gs hs → GoodLists n gs

@@ -163,7 +163,8 @@ fn on(args: Args) -> Call
 fn check_lowered(m: Mask, call: Call) -> Call
     ensures { result ≡ check_lowered m call }
 {
-    if m % 2 == 1 {
+    let odd = m % 2 == 1;
+    if odd {
         return Call::Refused(Refusal::Range);
     }
     check_range(m, 0, LAST_MASK, call)

@@ -118,7 +118,8 @@ pub fn resume(
         if p.lines == limit {
             return p;
         }
-        if out.len() - p.bytes < ANSWER_ROOM {
+        let short = out.len() - p.bytes < ANSWER_ROOM;
+        if short {
             return stop(p);
         }
         p = resume_line(text, store, cache, out, p);

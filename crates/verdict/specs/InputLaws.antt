@@ -1,6 +1,7 @@
 -- Bytes taken in one after the other, and read after read.
 use Rattle.std.specs.Prelude.{◌≡◌, [], ◌∷◌, ◌++◌, ℕ, ◌+◌, ◌≤◌, ◌<◌, length, take, set, get_or}
-use Rattle.std.proofs.Common.{sym, ◌∙◌, append-nil, append_assoc, add-one, arith, length-append, length-set, take-suc, take_all, take-suc-set}
+use Rattle.std.proofs.Common.{sym, ◌∙◌, append-nil, append_assoc, add-one, arith, length-append, length-set, take-suc}
+use Rattle.std.proofs.Common.{take_all, take-suc-set}
 use Rattle.std.proofs.Math.Seq.{take-nil}
 use Rattle.std.proofs.lemmas.List.{take-append-le}
 use Rattle.stdin.specs.Star.{Star, none, more}

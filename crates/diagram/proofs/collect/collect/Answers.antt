@@ -7,7 +7,8 @@ sweep-swept-requires c =
     (pre.sound.stored.room, (pre.sound.stored.numbered, (sound_children pre.sound, pre.registers)))
 
 pub rollback-state-requires : goal.rollback-state-requires
-rollback-state-requires c = sweep_rollback _ _ c.requires c.sweep-swept.ensures c.sweep-swept.auto.store c.fewer-buckets.ensures
+rollback-state-requires c = sweep_rollback _ _ c.requires c.sweep-swept.ensures c.sweep-swept.auto.store
+    c.fewer-buckets.ensures
 
 pub returns : goal.returns
 returns c = collect_ensures _ _ c.requires c.sweep-swept.ensures c.rollback-state.ensures

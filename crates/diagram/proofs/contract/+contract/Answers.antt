@@ -41,7 +41,11 @@ contract-contract_cached-outcome-requires t c =
             c.from-rest.ensures,
         contract_reduced_some g c.requires.1 v w c.lowest-k.ensures.0 c.factored-weight.ensures
             c.from-rest.ensures
-            (λ z. elim c.if-rest-eq0.branch [ then-rest-eq0+else-y-eq0+else-x-eq0 w ↦ w.if-y-eq0.false | else-rest-eq0 w ↦ absurd (w.if-rest-eq0.false z) ]),
+            (λ z. elim c.if-rest-eq0.branch [
+              | then-rest-eq0+else-y-eq0+else-x-eq0 w ↦ w.if-y-eq0.false
+              | else-rest-eq0 w
+                  ↦ absurd (w.if-rest-eq0.false z)
+            ]),
       ),
     )
 

@@ -5,7 +5,8 @@ use Rattle.diagram.specs.Invariant.{Invariant}
 use Rattle.replay.proofs.circuit.chain.Given as goal
 
 abbrev pub invariant-loop-q : goal.invariant-loop-q
-invariant-loop-q l = Invariant l.cache l.store l.r.state l.r.registers.all × (l.q ≤ 7) × (length l.store ≡ length l.initial.store)
+invariant-loop-q l = Invariant l.cache l.store l.r.state l.r.registers.all × (l.q ≤ 7)
+    × (length l.store ≡ length l.initial.store)
     × (length l.cache ≡ length l.initial.cache)
 
 abbrev pub decreases-loop-q : goal.decreases-loop-q

@@ -27,4 +27,5 @@ returns-in-Two c = rw (
 )
 
 pub returns-in_default-qubits : goal.returns-in_default-qubits
-returns-in_default-qubits c = rw c.in-Of.is (not_one_or_two _ _ _ _ c.in_default-qubits.not-One c.in_default-qubits.not-Two)
+returns-in_default-qubits c = rw c.in-Of.is (not_one_or_two _ _ _ _ c.in_default-qubits.not-One
+    c.in_default-qubits.not-Two)

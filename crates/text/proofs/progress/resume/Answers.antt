@@ -9,8 +9,9 @@ loop-p-init c = (search (rules, resume_loop_start), search rules)
 pub returns-then-p-limit : goal.returns-then-p-limit
 returns-then-p-limit c = search (rules, resume_loop_limit)
 
-pub returns-then-out-p-lt-ANSWER_ROOM : goal.returns-then-out-p-lt-ANSWER_ROOM
-returns-then-out-p-lt-ANSWER_ROOM c = resume_loop_stop c.loop-p.invariant.0 c.loop-p-test.true c.if-p-limit.false c.if-out-p-lt-ANSWER_ROOM.true
+pub returns-then-short : goal.returns-then-short
+returns-then-short c = resume_loop_stop c.loop-p.invariant.0 c.loop-p-test.true c.if-p-limit.false
+    c.if-short.true
     c.stop.ensures
 
 pub resume_line-p-requires : goal.resume_line-p-requires
@@ -22,7 +23,8 @@ loop-p-smaller c = search (rules, resume_line_less)
 pub loop-p-preserved : goal.loop-p-preserved
 loop-p-preserved c =
     let g = c.loop-p.invariant.0 in (
-      resume_loop_next g c.loop-p-test.true c.if-p-limit.false (resume_loop_line g c.loop-p-test.true c.if-out-p-lt-ANSWER_ROOM.false)
+      resume_loop_next g c.loop-p-test.true c.if-p-limit.false
+          (resume_loop_line g c.loop-p-test.true c.if-short.false)
           (search rules) (search rules) c.resume_line-p.ensures,
       search rules,
     )

@@ -7,7 +7,8 @@ labelled-a-requires c = number_room c.args.out.now _ c.args.line c.requires c.fa
     c.ranges.line.fits
 
 pub labelled-b-requires : goal.labelled-b-requires
-labelled-b-requires c = line_room_lem _ _ _ c.requires c.fault_number-n.ensures.1 c.ranges.line.fits c.labelled-a.ensures
+labelled-b-requires c = line_room_lem _ _ _ c.requires c.fault_number-n.ensures.1 c.ranges.line.fits
+    c.labelled-a.ensures
 
 pub put_bytes-requires : goal.put_bytes-requires
 put_bytes-requires c = end_room _ _ _ c.requires c.fault_number-n.ensures.1 c.ranges.line.fits c.labelled-a.ensures
