@@ -1,8 +1,8 @@
 // The session on standard input (document 01, "A session printed whole"), at capacity 2048: each line is answered
 // before more is read.
 //
-// It stops at the first failed read and at the first failed write, and a line on standard error says so. (A program
-// has no exit status of its own.)
+// It stops at the first failed read and at the first failed write, and a line on standard error says so. (The exit
+// status is 0 all the same.)
 #![tactic(auto)]
 
 mod answer;

@@ -1,5 +1,6 @@
 -- What one read of standard input promises.
 use Rattle.std.specs.Prelude.{◌≡◌, Bool, true, false, ℕ, zero, suc, ◌≤◌, min, List, length, take, ℤ, pos, negsuc}
+use Rattle.std.specs.Prelude.{Result, Ok, Err}
 use Rattle.stdin.specs.declared.Next.{Next}
 use Rattle.stdin.specs.declared.Next.TheVariants.{More, End, Failed}
 use Rattle.stdin.specs.declared.ReadResult.{ReadResult}
@@ -17,6 +18,11 @@ Moved n (negsuc k) = k ≡ 0
 abbrev pub clamp_len : ℤ → ℕ → ℕ
 clamp_len (pos k) most = min k most
 clamp_len (negsuc k) most = 0
+
+-- a read's answer as a number: how many bytes it moved, or -1 where it failed
+abbrev pub answered : {E : Type 0} → Result ℕ E → ℤ
+answered (Ok n) = pos n
+answered (Err e) = negsuc 0
 
 -- what a read answers: how many bytes came, 0 at the input's end, or -1 where it failed
 abbrev pub next_of : ℤ → Next

@@ -1,6 +1,6 @@
--- The result of a read, from the number that the code reads back from its bits, w.
-use Rattle.std.specs.Prelude.{◌≡◌, refl, Bool, true, false, not, ℕ, zero, suc, ◌≤◌, min, ℤ, pos, negsuc}
-use Rattle.std.proofs.Common.{ap, sym, ◌∙◌, subst, arith, ltb-true, ltb-false}
+-- The result of a read, from a number w that is the answer z.
+use Rattle.std.specs.Prelude.{◌≡◌, refl, Bool, true, false, not, ℕ, zero, suc, ℤ, pos, negsuc}
+use Rattle.std.proofs.Common.{sym, subst, arith, ltb-true, ltb-false}
 use Rattle.std.proofs.lemmas.Bool.{false≢true}
 use Rattle.std.specs.Int.Signed.{lt_z}
 use Rattle.stdin.specs.Stdin.{Moved, clamp_len, next_of, is_more, result_of, PossibleRead}
@@ -39,23 +39,6 @@ pub possible_read : (n m : ℕ) {w z : ℤ} {r : ReadResult} → n ≡ m → w �
     → PossibleRead n r
 possible_read n m {w} {z} {r} l e h q =
     record { got = z; moved = subst (λ k. Moved k z) (sym l) h; is = subst (λ (y : ℤ). r ≡ result_of y n) e q }
-
--- a read that brought k bytes, or none, or failed
-
-pub more_of : (k : ℕ) → (k ≡ 0 → ⊥) → More ≡ next_of (pos k)
-more_of zero h = absurd (h refl)
-more_of (suc k) h = refl
-
-pub bytes_read : (n : ℕ) {k : ℕ} {x : Next} → k ≤ n → x ≡ next_of (pos k)
-    → PossibleRead n (record { count = k; next = x })
-bytes_read n {k} {x} h e =
-    let least : k ≡ min k n = omega arith in
-    let counted : ℕ → ReadResult = λ m. record { count = m; next = x } in
-    let following : Next → ReadResult = λ y. record { count = min k n; next = y } in
-    record { got = pos k; moved = h; is = ap counted least ∙ ap following e }
-
-pub read_failed : (n : ℕ) → PossibleRead n (record { count = 0; next = Failed })
-read_failed n = record { got = negsuc 0; moved = refl; is = refl }
 
 -- where the test says that more is read, the read before has brought bytes
 

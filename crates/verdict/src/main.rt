@@ -1,7 +1,7 @@
 // The verdict on standard input (document 01, "Verdicts"), at capacity 2048.
 //
 // A text that is longer than the buffer, or whose reading failed, is not judged, and a line on standard error says
-// so, as it does of an answer that could not be written. (A program has no exit status of its own.)
+// so, as it does of an answer that could not be written. (The exit status is 0 all the same.)
 #![tactic(auto)]
 
 mod input;
