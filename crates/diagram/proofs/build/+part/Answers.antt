@@ -1,4 +1,4 @@
--- The part is built low before high; what is left is a join, and the last two needs are told by `gate_joins` from both
+-- The part is built low before high; what is left is a join, and the last two goals are told by `gate_joins` from both
 -- answers.
 use borrow.Author.Rules.{rules}
 use Rattle.diagram.specs.BuildLaws.{bits_below_low, bits_below_high, bits_below_next, gate_leaf, gate_low_full}

@@ -11,7 +11,8 @@ use Rattle.diagram.specs.ContractLaws.{contract_low_full, contract_high_ready, c
 use Rattle.diagram.specs.ContractLaws.{contract_low_refines}
 use Rattle.diagram.specs.ContractLaws.{contract_high_full, contract_combine_requires, contract_high_refines}
 use Rattle.diagram.proofs.contract.+contract.Goals as goal
-use Rattle.diagram.proofs.contract.+contract.Lts-contract.{then-rest-eq0+else-y-eq0+else-x-eq0, else-rest-eq0}
+use Rattle.diagram.proofs.contract.+contract.Goals.{contract-then-rest-eq0+else-y-eq0+else-x-eq0}
+use Rattle.diagram.proofs.contract.+contract.Goals.{contract-else-rest-eq0}
 
 pub contract-returns-then-v-eq0 : goal.contract-returns-then-v-eq0
 contract-returns-then-v-eq0 t c = search (rules, contract_left)
@@ -42,8 +43,8 @@ contract-contract_cached-outcome-requires t c =
         contract_reduced_some g c.requires.1 v w c.lowest-k.ensures.0 c.factored-weight.ensures
             c.from-rest.ensures
             (λ z. elim c.if-rest-eq0.branch [
-              | then-rest-eq0+else-y-eq0+else-x-eq0 w ↦ w.if-y-eq0.false
-              | else-rest-eq0 w
+              | contract-then-rest-eq0+else-y-eq0+else-x-eq0 w ↦ w.if-y-eq0.false
+              | contract-else-rest-eq0 w
                   ↦ absurd (w.if-rest-eq0.false z)
             ]),
       ),
