@@ -1,5 +1,5 @@
 -- Building a gate (document 01, `gate`: "build of the gate"): the tensor with its first indices fixed, index by index.
-use Rattle.std.specs.Prelude.{◌≡◌, ◌≢◌, false, List, ℕ, zero, suc, ◌/◌, ◌%◌, ◌^◌, ◌≤◌, ◌<◌}
+use Rattle.std.specs.Prelude.{◌≡◌, ◌≢◌, false, List, ℕ, zero, suc, ◌/◌, ◌%◌, ◌^◌, ◌≤◌, ◌<◌, Result}
 use Rattle.diagram.specs.Tensor.{indices, Tensor, bits, fix, Bits, index_count}
 use Rattle.diagram.specs.Tally.{Step, join}
 use Rattle.diagram.specs.Gate.{gate_tensor}
@@ -9,7 +9,7 @@ use Rattle.diagram.specs.Join.{JoinRequires}
 use Rattle.diagram.specs.declared.gate.Gate.{Gate}
 use Rattle.diagram.specs.declared.node.Edge.{Edge}
 use Rattle.diagram.specs.declared.make.State.{State}
-use Rattle.diagram.specs.declared.join.Outcome.{Outcome}
+use Rattle.diagram.specs.declared.diagram.Full.{Full}
 
 -- from k on and below r no index is a middle or fresh index of p or q
 pub record NoneOwned (p q k r : ℕ) : Type 0 where
@@ -40,5 +40,6 @@ pub record BitsBelow (k v : ℕ) : Type 0 where
 pub record JoinRemains (s s₂ : List ℕ) (st u : State) (k : ℕ) (l h : Edge) (f : Step indices) : Type 0 where
   pub sound : Sound s₂ u
   pub joinable : JoinRequires s₂ u k l h
-  pub does : (s₃ : List ℕ) (r : Outcome) → Refines s₂ s₃ u (join k (tensor_of s₂ u l) (tensor_of s₂ u h)) r
-      → Refines s s₃ st f r
+  pub does : (s₃ : List ℕ) (w : State) (r : Result Edge Full)
+      → Refines s₂ s₃ u w (join k (tensor_of s₂ u l) (tensor_of s₂ u h)) r
+      → Refines s s₃ st w f r

@@ -1,6 +1,7 @@
 -- Laws of building a gate: a tensor from its parts at an index (low, then high, then the join), and the indices that a
 -- gate uses.
 use Rattle.std.specs.Prelude.{◌≡◌, refl, List, ◌≢◌, Bool, true, false, ℕ, suc, ◌<◌, zero, ◌+◌, ◌-◌, ◌*◌, ◌%◌, ◌^◌, ◌≤◌}
+use Rattle.std.specs.Prelude.{Result, Ok, Err}
 use Rattle.std.proofs.Common.{ap, sym, ◌∙◌, ap₂, subst, arith, add-one}
 use Rattle.std.proofs.Math.Path.{fun_ext}
 use Rattle.std.proofs.Math.Nat.{pow-le-pow_right}
@@ -21,7 +22,7 @@ use Rattle.diagram.specs.MeaningLaws.{valid_more}
 use Rattle.diagram.specs.CanonicalLaws.{edge_constant}
 use Rattle.diagram.specs.Store.{nodes_of, set_of, tensor_of, Sound, RefinesEdge, RefinesFull, Refines}
 use Rattle.diagram.specs.StoreLaws.{join_grows, tensor_kept, refines_stays, refines_count, refines_then}
-use Rattle.diagram.specs.StoreLaws.{refines_full_more, refines_edge, refines_full}
+use Rattle.diagram.specs.StoreLaws.{refines_full_more}
 use Rattle.diagram.specs.Build.{JoinRemains, gate_part, NoneOwned, fix_below, NoneUsed, BitsBelow}
 use Rattle.diagram.specs.Tabulate.{tabulate}
 use Rattle.diagram.specs.MaskLaws.{one_shl}
@@ -33,9 +34,8 @@ use Rattle.diagram.specs.BuildFixBelowLaws.{fix_below_none, fix_below_from, fix_
 use Rattle.diagram.specs.BuildFixBelowLaws.{fix_below_free, low_bits, high_bits}
 use Rattle.diagram.specs.declared.node.Edge.{Edge}
 use Rattle.diagram.specs.declared.make.State.{State}
-use Rattle.diagram.specs.declared.join.Outcome.TheVariants as outcome
 use Rattle.diagram.specs.declared.gate.Gate.{Gate}
-use Rattle.diagram.specs.declared.join.Outcome.{Outcome}
+use Rattle.diagram.specs.declared.diagram.Full.{Full}
 
 -- a constant needs no node
 
@@ -101,7 +101,7 @@ module _ (k : ℕ) (L H : Tensor indices) (inside : k < index_count) (low : Free
 
     pub build_high_full : {s₂ : List ℕ} → RefinesFull s₁ s₂ t (build H) → RefinesFull s s₂ st (build (joined k L H))
     unfolding rest
-    build_high_full {s₂} o = refines_then d (build (joined k L H)) rest started s₂ outcome.Full
+    build_high_full {s₂} o = refines_then d (build (joined k L H)) rest started s₂ t (Err (record {}))
         (refines_full_more o rest (join_grows k L H _))
 
     module _ {s₂ : List ℕ} {u : State} {h : Edge} (d' : RefinesEdge s₁ s₂ t u (build H) h) where
@@ -120,9 +120,9 @@ module _ (k : ℕ) (L H : Tensor indices) (inside : k < index_count) (low : Free
               from_low = rw l_is low;
               from_high = rw (built_tensor H d') high;
             };
-            does = λ s₃ r j.
-                refines_then d (build (joined k L H)) rest started s₃ r
-                (refines_then d' rest (join k L H) (ap (join k L H) (built_set H d')) s₃ r
+            does = λ s₃ w r j.
+                refines_then d (build (joined k L H)) rest started s₃ w r
+                (refines_then d' rest (join k L H) (ap (join k L H) (built_set H d')) s₃ w r
                 (rw (l_is, built_tensor H d') at j));
           }
 
@@ -228,10 +228,10 @@ gate_leaf {s} {st} g k v {w} h p z e =
     (built_constant w h e.small)
 
 -- no index fixed that the gate uses: the gate
-pub gate_whole : (s s' : List ℕ) (st : State) (g : Gate) {k : ℕ} (r : Outcome) → NoneUsed g 0 k
-    → Refines s s' st (build (gate_part g k 0)) r
-    → Refines s s' st (build (gate_tensor indices g)) r
-gate_whole s s' st g r n d = subst (λ T. Refines s s' st (build T) r) (part_next 0 n ∙ part_whole g) d
+pub gate_whole : (s s' : List ℕ) (st t : State) (g : Gate) {k : ℕ} (r : Result Edge Full) → NoneUsed g 0 k
+    → Refines s s' st t (build (gate_part g k 0)) r
+    → Refines s s' st t (build (gate_tensor indices g)) r
+gate_whole s s' st t g r n d = subst (λ T. Refines s s' st t (build T) r) (part_next 0 n ∙ part_whole g) d
 
 -- k is an index: the part is that with k fixed to 0, and then that with k fixed to 1, joined; n is the next index that
 -- the gate uses
@@ -242,45 +242,37 @@ module _ (g : Gate) (k v : ℕ) (index : k ≢ index_count) (p : BitsBelow k v) 
   above : (w : ℕ) → FreeBelow (suc k) (gate_part g (k + 1) w)
   above w = rw (add-one k) (part_from g (suc k) w)
 
-  low_full : {s s₁ : List ℕ} {st : State} → RefinesFull s s₁ st (build (gate_part g (k + 1) v))
+  split : {w : ℕ} → w ≡ v + 2 ^ k → joined k (gate_part g (k + 1) v) (gate_part g (k + 1) w) ≡ gate_part g k v
+  split high = rw high (sym (part_split g k v p.below))
+
+  pub gate_low_full : {s s₁ : List ℕ} {st : State} → RefinesFull s s₁ st (build (gate_part g n v))
       → RefinesFull s s₁ st (build (gate_part g k v))
-  low_full {s} {s₁} {st} o =
+  gate_low_full {s} {s₁} {st} o =
       subst (λ T. RefinesFull s s₁ st (build T)) (sym (part_split g k v p.below))
-      (build_low_full k _ _ inside (above v) (above (v + 2 ^ k)) o)
+      (build_low_full k _ _ inside (above v) (above (v + 2 ^ k))
+      (subst (λ T. RefinesFull s s₁ st (build T)) (part_next v next) o))
 
-  -- the low part was answered by r
-  module _ (s s₁ : List ℕ) (st : State) (r : Outcome) (does-low : Refines s s₁ st (build (gate_part g n v)) r) where
-    low : Refines s s₁ st (build (gate_part g (k + 1) v)) r
-    low = subst (λ T. Refines s s₁ st (build T) r) (part_next v next) does-low
+  -- the low part was answered by l
+  module _ {s s₁ : List ℕ} {st t : State} {l : Edge} (done : RefinesEdge s s₁ st t (build (gate_part g n v)) l) where
+    d : RefinesEdge s s₁ st t (build (gate_part g (k + 1) v)) l
+    d = subst (λ T. RefinesEdge s s₁ st t (build T) l) (part_next v next) done
 
-    pub gate_low_full : r ≡ outcome.Full → RefinesFull s s₁ st (build (gate_part g k v))
-    gate_low_full e = low_full (refines_full _ r low e)
+    pub gate_sound : Sound s₁ t
+    gate_sound = done.sound
 
-    module _ {t : State} {l : Edge} (some : r ≡ outcome.Edge l t) where
-      d : RefinesEdge s s₁ st t (build (gate_part g (k + 1) v)) l
-      d = refines_edge _ r low some
+    module _ {w : ℕ} (high : w ≡ v + 2 ^ k) {s₂ : List ℕ} where
+      pub gate_high_full : RefinesFull s₁ s₂ t (build (gate_part g n w))
+          → RefinesFull s s₂ st (build (gate_part g k v))
+      gate_high_full o =
+          subst (λ T. RefinesFull s s₂ st (build T)) (split high)
+          (build_high_full k _ _ inside (above v) (above w) d
+          (subst (λ T. RefinesFull s₁ s₂ t (build T)) (part_next w next) o))
 
-      pub gate_sound : Sound s₁ t
-      gate_sound = d.sound
+      -- the high part was answered by h
+      module _ {u : State} {h : Edge} (done' : RefinesEdge s₁ s₂ t u (build (gate_part g n w)) h) where
+        d' : RefinesEdge s₁ s₂ t u (build (gate_part g (k + 1) w)) h
+        d' = subst (λ T. RefinesEdge s₁ s₂ t u (build T) h) (part_next w next) done'
 
-      -- the high part was answered by r'
-      module _ {w : ℕ} (high : w ≡ v + 2 ^ k) (s₂ : List ℕ) (r' : Outcome)
-          (does-high : Refines s₁ s₂ t (build (gate_part g n w)) r') where
-        does : Refines s₁ s₂ t (build (gate_part g (k + 1) w)) r'
-        does = subst (λ T. Refines s₁ s₂ t (build T) r') (part_next w next) does-high
-
-        split : joined k (gate_part g (k + 1) v) (gate_part g (k + 1) w) ≡ gate_part g k v
-        split = rw high (sym (part_split g k v p.below))
-
-        pub gate_high_full : r' ≡ outcome.Full → RefinesFull s s₂ st (build (gate_part g k v))
-        gate_high_full e =
-            subst (λ T. RefinesFull s s₂ st (build T)) split
-            (build_high_full k _ _ inside (above v) (above w) d (refines_full _ r' does e))
-
-        module _ {u : State} {h : Edge} (some' : r' ≡ outcome.Edge h u) where
-          d' : RefinesEdge s₁ s₂ t u (build (gate_part g (k + 1) w)) h
-          d' = refines_edge _ r' does some'
-
-          pub gate_joins : JoinRemains s s₂ st u k l h (build (gate_part g k v))
-          gate_joins = subst (λ T. JoinRemains s s₂ st u k l h (build T)) split
-              (build_joins k _ _ inside (above v) (above w) d d')
+        pub gate_joins : JoinRemains s s₂ st u k l h (build (gate_part g k v))
+        gate_joins = subst (λ T. JoinRemains s s₂ st u k l h (build T)) (split high)
+            (build_joins k _ _ inside (above v) (above w) d d')

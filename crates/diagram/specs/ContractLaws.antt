@@ -1,5 +1,6 @@
 -- Laws of contraction in the store: what each of its cases gives.
 use Rattle.std.specs.Prelude.{◌≡◌, refl, ◌≢◌, Bool, true, false, cond, ◌||◌, List, ℕ, zero, suc, ◌≤◌, ◌<◌}
+use Rattle.std.specs.Prelude.{Result, Ok, Err}
 use Rattle.std.proofs.Math.Path.{ap}
 use Rattle.std.proofs.Common.{sym, ◌∙◌, arith, le_refl}
 use Rattle.field.specs.Weight.{to_weight, 1w, times_w, Nonzero}
@@ -27,10 +28,10 @@ use Rattle.diagram.specs.StoreLaws.{zero_edge, join_grows}
 use Rattle.diagram.specs.EdgeLaws.{free_below_level, level_most, level_none}
 use Rattle.diagram.specs.Cache.{KeyFits, op_step, key_step}
 use Rattle.diagram.specs.Mask.{MaskWithout, MaskFrom}
-use Rattle.diagram.specs.Operation.{OperationRequires, RefinesCached, lowest_of, MultipleOutcome, high_step}
+use Rattle.diagram.specs.Operation.{OperationRequires, RefinesCached, lowest_of, high_step}
 use Rattle.diagram.specs.Operation.{HighRequires, edges_measure, PartsGrow}
-use Rattle.diagram.specs.OperationLaws.{cached_stays, cached_step, cached_scaled}
-use Rattle.diagram.specs.Edge.{IsCofactor}
+use Rattle.diagram.specs.OperationLaws.{cached_stays, cached_step, cached_scaled, cached_scaled_full}
+use Rattle.diagram.specs.Edge.{IsMultiple, IsCofactor}
 use Rattle.diagram.specs.Join.{JoinRequires}
 use Rattle.diagram.specs.OperationHalvesLaws.{measure_same, inside, tops, edge_covers, one_tensor}
 use Rattle.diagram.specs.OperationHalvesLaws.{low_part_full, high_part_ready, high_part_measure, low_part_refines}
@@ -40,8 +41,7 @@ use Rattle.diagram.specs.Contract.{ContractReduced, combine, FactoredEnsures, co
 use Rattle.diagram.specs.declared.node.Edge.{Edge}
 use Rattle.diagram.specs.declared.make.State.{State}
 use Rattle.diagram.specs.declared.cache.Op.TheVariants as ops
-use Rattle.diagram.specs.declared.join.Outcome.{Outcome}
-use Rattle.diagram.specs.declared.join.Outcome.TheVariants as outcome
+use Rattle.diagram.specs.declared.diagram.Full.{Full}
 
 pub factored_by : (p u v w m k r : ℕ) → Represents p (power2 (members k (bits m)))
     → Represents u (times_w (to_weight v) (to_weight w))
@@ -55,20 +55,20 @@ module _ {c s : List ℕ} {st : State} {a b : Edge} (g : OperationRequires c s s
   nought = record { weight = 0; node = 0 }
 
   nothing : (is_zero (tensor_of s st a) || is_zero (tensor_of s st b)) ≡ true
-      → RefinesCached c s s st (cont (tensor_of s st a) (tensor_of s st b) (bits m))
-      (outcome.Edge (record { weight = 0; node = 0 }) st)
+      → RefinesCached c s s st st (cont (tensor_of s st a) (tensor_of s st b) (bits m))
+      (Ok (record { weight = 0; node = 0 }))
   nothing z =
       cached_stays g (record { small = omega arith; within = omega arith; zero = λ _. refl })
       (cont_zero _ _ _ (bits m) z ∙ ap (λ T. (T, set_of s st)) (sym (zero_edge g.sound nought refl)))
 
   pub contract_left : a.weight ≡ 0
-      → RefinesCached c s s st (cont (tensor_of s st a) (tensor_of s st b) (bits m))
-      (outcome.Edge (record { weight = 0; node = 0 }) st)
+      → RefinesCached c s s st st (cont (tensor_of s st a) (tensor_of s st b) (bits m))
+      (Ok (record { weight = 0; node = 0 }))
   contract_left z = nothing (rw (zero_tensor g.sound a z) refl)
 
   pub contract_right : b.weight ≡ 0
-      → RefinesCached c s s st (cont (tensor_of s st a) (tensor_of s st b) (bits m))
-      (outcome.Edge (record { weight = 0; node = 0 }) st)
+      → RefinesCached c s s st st (cont (tensor_of s st a) (tensor_of s st b) (bits m))
+      (Ok (record { weight = 0; node = 0 }))
   contract_right z = nothing (or_right (is_zero (tensor_of s st a)) _ (zero_tensor g.sound b z))
 
 -- the weights and the members of S below both tops taken out
@@ -126,23 +126,23 @@ module _ {c s : List ℕ} {st : State} {a b : Edge} {m k v rest : ℕ} (g : Oper
 
   one_left : (n : ℕ) → n ≤ st.count
       → cont TA TB (bits rest) (set_of s st) ≡ (scale 1w (tensor_at (set_of s st) n), set_of s st)
-      → RefinesCached c s s st (cont (tensor_of s st a) (tensor_of s st b) (bits m))
-      (outcome.Edge (record { weight = v; node = n }) st)
+      → RefinesCached c s s st st (cont (tensor_of s st a) (tensor_of s st b) (bits m))
+      (Ok (record { weight = v; node = n }))
   one_left n q e =
       cached_stays g (record { small = vis.small; within = q; zero = λ z. absurd (factor_nonzero z) })
       (scaled.is (set_of s st) ∙ rw e (ap (λ T. (T, set_of s st)) (node_edge n)))
 
   pub constant_right : b.node ≡ 0 → rest ≡ 0
-      → RefinesCached c s s st (cont (tensor_of s st a) (tensor_of s st b) (bits m))
-      (outcome.Edge (record { weight = v; node = a.node }) st)
+      → RefinesCached c s s st st (cont (tensor_of s st a) (tensor_of s st b) (bits m))
+      (Ok (record { weight = v; node = a.node }))
   constant_right y z =
       one_left a.node g.left.within
       (rw (y, z, at_zero (set_of s st)) (cont_constant 1w one_nonzero (bits 0) no_bits (set_of s st) _
       (covers a.node g.left.within)))
 
   pub constant_left : a.node ≡ 0 → rest ≡ 0
-      → RefinesCached c s s st (cont (tensor_of s st a) (tensor_of s st b) (bits m))
-      (outcome.Edge (record { weight = v; node = b.node }) st)
+      → RefinesCached c s s st st (cont (tensor_of s st a) (tensor_of s st b) (bits m))
+      (Ok (record { weight = v; node = b.node }))
   constant_left y z =
       one_left b.node g.right.within
       (rw (y, z, at_zero (set_of s st), cont_comm (constant indices 1w))
@@ -176,12 +176,24 @@ module _ {c s : List ℕ} {st : State} {a b : Edge} {m k v rest : ℕ} (g : Oper
   unfolding tensor_of edge_in
   reduced_is n = rw weight_one (scale_one _)
 
-  pub contract_times : (c' s' : List ℕ) (x q : Outcome)
-      → RefinesCached c' s s' st (cont (tensor_of s st (record { weight = 1; node = a.node }))
-      (tensor_of s st (record { weight = 1; node = b.node })) (bits rest)) x
-      → MultipleOutcome v x q → RefinesCached c' s s' st (cont (tensor_of s st a) (tensor_of s st b) (bits m)) q
-  contract_times c' s' x q w t =
-      cached_scaled c' s s' st x q vis.small factor_nonzero (rw (reduced_is, reduced_is) scaled) w t
+  reduced_scaled : ScaledStep (to_weight v) (cont (tensor_of s st (record { weight = 1; node = a.node }))
+      (tensor_of s st (record { weight = 1; node = b.node })) (bits rest))
+      (cont (tensor_of s st a) (tensor_of s st b) (bits m))
+  reduced_scaled = rw (reduced_is, reduced_is) scaled
+
+  module _ {c' s' : List ℕ} {t : State} where
+    pub contract_times : {e q : Edge}
+        → RefinesCached c' s s' st t (cont (tensor_of s st (record { weight = 1; node = a.node }))
+        (tensor_of s st (record { weight = 1; node = b.node })) (bits rest)) (Ok e)
+        → IsMultiple v e q
+        → RefinesCached c' s s' st t (cont (tensor_of s st a) (tensor_of s st b) (bits m)) (Ok q)
+    contract_times w x = cached_scaled reduced_scaled vis.small factor_nonzero w x
+
+    pub contract_times_full : {x : Full}
+        → RefinesCached c' s s' st t (cont (tensor_of s st (record { weight = 1; node = a.node }))
+        (tensor_of s st (record { weight = 1; node = b.node })) (bits rest)) (Err x)
+        → RefinesCached c' s s' st t (cont (tensor_of s st a) (tensor_of s st b) (bits m)) (Err x)
+    contract_times_full w = cached_scaled_full reduced_scaled w
 
 -- edges of weight 1
 module _ {c s : List ℕ} {st : State} {a b : Edge} {m : ℕ} (g : OperationRequires c s st a b)
@@ -234,71 +246,71 @@ contract_parts_at {s = s} {st} {a} {b} {k} m g e = record {
 -- the low parts, over the set r, which is S without k
 module _ {c s : List ℕ} {st : State} {a b a0 b0 : Edge} {m k r : ℕ} (g : OperationRequires c s st a b)
     (p : ContractReduced a b m) (e : k ≡ lowest_of s st a b) (o : MaskWithout m k r)
-    (ca : IsCofactor s st a k false a0) (cb : IsCofactor s st b k false b0) (c₁ s₁ : List ℕ) (q : Outcome)
-    (w : RefinesCached c₁ s s₁ st (cont (tensor_of s st a0) (tensor_of s st b0) (bits r)) q) where
-  low_reduced : RefinesCached c₁ s s₁ st (cont_without k m (tensor_of s st a0) (tensor_of s st b0)) q
-  low_reduced = rw o.is at w
-
+    (ca : IsCofactor s st a k false a0) (cb : IsCofactor s st b k false b0) where
   v : PartsGrow (tensor_of s st a) (tensor_of s st b) k k (cont_without k m) (combine k m)
   v = contract_parts_at m g e
 
-  pub contract_low_full : q ≡ outcome.Full
-      → RefinesCached c₁ s s₁ st (cont (tensor_of s st a) (tensor_of s st b) (bits m)) outcome.Full
-  contract_low_full x = low_part_full g (inside g p.some e) e v (contract_whole g p e) ca cb c₁ s₁ q low_reduced x
+  pub contract_low_full : {c₁ s₁ : List ℕ} {t : State} {x : Full}
+      → RefinesCached c₁ s s₁ st t (cont (tensor_of s st a0) (tensor_of s st b0) (bits r)) (Err x)
+      → RefinesCached c₁ s s₁ st t (cont (tensor_of s st a) (tensor_of s st b) (bits m)) (Err x)
+  contract_low_full w =
+      low_part_full g (inside g p.some e) e v (contract_whole g p e) ca cb (rw o.is at w)
 
-  module _ {l : Edge} {t : State} (x : q ≡ outcome.Edge l t) where
+  module _ {c₁ s₁ : List ℕ} {t : State} {l : Edge}
+      (w : RefinesCached c₁ s s₁ st t (cont (tensor_of s st a0) (tensor_of s st b0) (bits r)) (Ok l)) where
+    low_reduced : RefinesCached c₁ s s₁ st t (cont_without k m (tensor_of s st a0) (tensor_of s st b0)) (Ok l)
+    low_reduced = rw o.is at w
+
     pub contract_high_ready : HighRequires c₁ s₁ t a b k k l
-    contract_high_ready =
-        high_part_ready g (inside g p.some e) e v (contract_whole g p e) ca cb c₁ s₁ q low_reduced x
+    contract_high_ready = high_part_ready g (inside g p.some e) e v (contract_whole g p e) ca cb low_reduced
 
     pub contract_measure : edges_measure s₁ t a b ≡ edges_measure s st a b
-    contract_measure = high_part_measure g (inside g p.some e) e v (contract_whole g p e) ca cb c₁ s₁ q low_reduced x
+    contract_measure = high_part_measure g (inside g p.some e) e v (contract_whole g p e) ca cb low_reduced
 
-    pub contract_low_refines : (c₂ s₂ : List ℕ) (y : Outcome)
-        → RefinesCached c₂ s₁ s₂ t (high_step (cont_without k m) (combine k m) k (tensor_of s₁ t a) (tensor_of s₁ t b)
-        (tensor_of s₁ t l)) y
-        → RefinesCached c₂ s s₂ st (cont (tensor_of s st a) (tensor_of s st b) (bits m)) y
-    contract_low_refines c₂ s₂ y h =
-        low_part_refines g (inside g p.some e) e v (contract_whole g p e) ca cb c₁ s₁ q low_reduced x c₂ s₂ y h
+    pub contract_low_refines : (c₂ s₂ : List ℕ) (u : State) (y : Result Edge Full)
+        → RefinesCached c₂ s₁ s₂ t u (high_step (cont_without k m) (combine k m) k (tensor_of s₁ t a)
+        (tensor_of s₁ t b) (tensor_of s₁ t l)) y
+        → RefinesCached c₂ s s₂ st u (cont (tensor_of s st a) (tensor_of s st b) (bits m)) y
+    contract_low_refines c₂ s₂ u y h =
+        low_part_refines g (inside g p.some e) e v (contract_whole g p e) ca cb low_reduced c₂ s₂ u y h
 
 -- the high parts
 module _ {c s : List ℕ} {st : State} {a b a1 b1 l : Edge} {m k r : ℕ} (w : HighRequires c s st a b k k l)
     (o : MaskWithout m k r)
-    (ca : IsCofactor s st a k true a1) (cb : IsCofactor s st b k true b1) (c₁ s₁ : List ℕ) (q : Outcome)
-    (h : RefinesCached c₁ s s₁ st (cont (tensor_of s st a1) (tensor_of s st b1) (bits r)) q) where
-  high_reduced : RefinesCached c₁ s s₁ st (cont_without k m (tensor_of s st a1) (tensor_of s st b1)) q
-  high_reduced = rw o.is at h
-
+    (ca : IsCofactor s st a k true a1) (cb : IsCofactor s st b k true b1) where
   u : PartsGrow (tensor_of s st a) (tensor_of s st b) k k (cont_without k m) (combine k m)
   u = contract_parts_at m w.ready w.lowest
 
-  pub contract_high_full : q ≡ outcome.Full
-      → RefinesCached c₁ s s₁ st (high_step (cont_without k m) (combine k m) k (tensor_of s st a) (tensor_of s st b)
-      (tensor_of s st l)) outcome.Full
-  contract_high_full x = high_part_full w u ca cb c₁ s₁ q high_reduced x
+  pub contract_high_full : {c₁ s₁ : List ℕ} {t : State} {x : Full}
+      → RefinesCached c₁ s s₁ st t (cont (tensor_of s st a1) (tensor_of s st b1) (bits r)) (Err x)
+      → RefinesCached c₁ s s₁ st t (high_step (cont_without k m) (combine k m) k (tensor_of s st a) (tensor_of s st b)
+      (tensor_of s st l)) (Err x)
+  contract_high_full h = high_part_full w u ca cb (rw o.is at h)
 
-  module _ {y : Edge} {t : State} (x : q ≡ outcome.Edge y t) where
+  module _ {c₁ s₁ : List ℕ} {t : State} {y : Edge}
+      (h : RefinesCached c₁ s s₁ st t (cont (tensor_of s st a1) (tensor_of s st b1) (bits r)) (Ok y)) where
+    high_reduced : RefinesCached c₁ s s₁ st t (cont_without k m (tensor_of s st a1) (tensor_of s st b1)) (Ok y)
+    high_reduced = rw o.is at h
+
     pub contract_combine_requires : OperationRequires c₁ s₁ t l y × JoinRequires s₁ t k l y
-    contract_combine_requires = (
-      high_ready w u ca cb c₁ s₁ q high_reduced x,
-      high_joinable w u ca cb c₁ s₁ q high_reduced x,
-    )
+    contract_combine_requires = (high_ready w u ca cb high_reduced, high_joinable w u ca cb high_reduced)
 
-    pub contract_high_refines : (c₂ s₂ : List ℕ) (z : Outcome)
-        → RefinesCached c₂ s₁ s₂ t (combine k m (tensor_of s₁ t l) (tensor_of s₁ t y)) z
-        → RefinesCached c₂ s s₂ st (high_step (cont_without k m) (combine k m) k (tensor_of s st a) (tensor_of s st b)
+    pub contract_high_refines : (c₂ s₂ : List ℕ) (q : State) (z : Result Edge Full)
+        → RefinesCached c₂ s₁ s₂ t q (combine k m (tensor_of s₁ t l) (tensor_of s₁ t y)) z
+        → RefinesCached c₂ s s₂ st q (high_step (cont_without k m) (combine k m) k (tensor_of s st a) (tensor_of s st b)
         (tensor_of s st l)) z
-    contract_high_refines c₂ s₂ z d = high_part_refines w u ca cb c₁ s₁ q high_reduced x c₂ s₂ z d
+    contract_high_refines c₂ s₂ q z d = high_part_refines w u ca cb high_reduced c₂ s₂ q z d
 
 -- "the answer is sum(L,H) if k is in S, else join(k,L,H)"
 module _ (m k : ℕ) {x : Bool} (e : x ≡ bits m k) where
-  pub combine_sum : (c' s s' : List ℕ) (st : State) (L H : Tensor indices) (r : Outcome) → x ≡ true
-      → RefinesCached c' s s' st (sum L H) r
-      → RefinesCached c' s s' st (combine k m L H) r
-  combine_sum c' s s' st L H r q w = rw (sym e ∙ q) w
+  pub combine_sum : (c' s s' : List ℕ) (st t : State) (L H : Tensor indices) (r : Result Edge Full) → x ≡ true
+      → RefinesCached c' s s' st t (sum L H) r
+      → RefinesCached c' s s' st t (combine k m L H) r
+  combine_sum c' s s' st t L H r q w = rw (sym e ∙ q) w
 
-  pub combine_join : {c s : List ℕ} {st : State} {l h : Edge} (s' : List ℕ) (L H : Tensor indices) (r : Outcome)
-      → x ≡ false → OperationRequires c s st l h
-      → Refines s s' st (join k L H) r
-      → RefinesCached c s s' st (combine k m L H) r
-  combine_join s' L H r q g d = rw (sym e ∙ q) (cached_step s' _ r g d)
+  pub combine_join : {c c' s : List ℕ} {st : State} {l h : Edge} (s' : List ℕ) (t : State) (L H : Tensor indices)
+      (r : Result Edge Full)
+      → x ≡ false → OperationRequires c s st l h → c' ≡ c
+      → Refines s s' st t (join k L H) r
+      → RefinesCached c' s s' st t (combine k m L H) r
+  combine_join s' t L H r q g p d = rw (sym e ∙ q) (cached_step s' t _ r g p d)

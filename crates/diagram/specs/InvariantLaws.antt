@@ -1,5 +1,6 @@
 -- Laws of the invariant: every call keeps it, and what a register read under it holds.
 use Rattle.std.specs.Prelude.{Bool, true, false, cond, ◌≡◌, refl, List, [], ℕ, ◌-◌, ◌≤◌, ◌<◌, get_or, set}
+use Rattle.std.specs.Prelude.{Result, Ok, Err}
 use Rattle.std.proofs.lemmas.Bool.{false≢true}
 use Rattle.std.proofs.Common.{ap, sym, subst, ◌∙◌, arith}
 use Rattle.std.proofs.Math.Option.{none, some}
@@ -11,15 +12,14 @@ use Rattle.diagram.specs.Top.{Free}
 use Rattle.diagram.specs.Lower.{LowerRequires, LowsRequires}
 use Rattle.diagram.specs.Lows.{clash}
 use Rattle.diagram.specs.Sets.{PrefixOf}
-use Rattle.diagram.specs.Store.{nodes_of, set_of, tensor_of, RefinesEdge, Refines}
+use Rattle.diagram.specs.Store.{nodes_of, set_of, tensor_of, RefinesEdge, RefinesFull, Refines}
 use Rattle.diagram.specs.StoreLaws.{set_length}
-use Rattle.diagram.specs.StoreLaws.{refines_edge, refines_full, refines_count, sets_prefix}
+use Rattle.diagram.specs.StoreLaws.{refines_count, sets_prefix}
 use Rattle.diagram.specs.Cache.{Remembers}
 use Rattle.diagram.specs.CacheLaws.{remembers_nothing, remembers_more}
 use Rattle.diagram.specs.Operation.{RefinesCached}
-use Rattle.diagram.specs.OperationLaws.{cached_at}
 use Rattle.diagram.specs.Restore.{StartEnsures, RollbackRequires, RollbackEnsures}
-use Rattle.diagram.specs.RestoreLaws.{full_rollback}
+use Rattle.diagram.specs.RestoreLaws.{rollback_of, full_rollback}
 use Rattle.diagram.specs.Registers.{occupied, empty_register, empty_registers, filled_with, held_by, GetEnsures}
 use Rattle.diagram.specs.Registers.{RegistersValid, holds, holds_all}
 use Rattle.diagram.specs.RegistersLaws.{registers_none, registers_put, registers_clear, registers_more}
@@ -30,8 +30,7 @@ use Rattle.diagram.specs.declared.node.Edge.{Edge}
 use Rattle.diagram.specs.declared.registers.RegisterContent.{RegisterContent}
 use Rattle.diagram.specs.declared.registers.RegisterContent.TheVariants as content
 use Rattle.diagram.specs.declared.make.State.{State}
-use Rattle.diagram.specs.declared.join.Outcome.{Outcome}
-use Rattle.diagram.specs.declared.join.Outcome.TheVariants as outcome
+use Rattle.diagram.specs.declared.diagram.Full.{Full}
 use Rattle.diagram.specs.declared.registers.Register.{Register}
 
 -- what is read from a register is an edge of the store's nodes
@@ -75,24 +74,21 @@ set_done {t = t} i g d m q =
       registers = registers_put i (registers_more t.count (refines_count d) g) d.valid;
     })
 
-module _ {c s s' : List ℕ} {st : State} {rs : List Register} (p : Invariant c s st rs) (f : Step indices)
-    (r : Outcome) where
+module _ {c s s' : List ℕ} {st : State} {rs : List Register} (p : Invariant c s st rs) {f : Step indices} where
   module _ {t : State} {e : Edge} {rs' : List Register} (i : ℕ) (put : rs' ≡ set rs i (filled_with e)) where
-    pub invariant_refines : Refines s s' st f r → r ≡ outcome.Edge e t → Invariant c s' t rs'
-    invariant_refines w q =
-        let d : RefinesEdge s s' st t f e = refines_edge f r w q in
+    pub invariant_refines : RefinesEdge s s' st t f e → Invariant c s' t rs'
+    invariant_refines d =
         set_done i p.registers d (remembers_more s s' st t d.grown d.epoch (refines_count d) p.cache) put
 
-    pub invariant_cached : {c' : List ℕ} → RefinesCached c' s s' st f r → r ≡ outcome.Edge e t → Invariant c' s' t rs'
-    invariant_cached {c'} w q = let d : RefinesCached c' s s' st f (outcome.Edge e t) = cached_at f r w q in set_done i
-        p.registers d.step d.cache put
+    pub invariant_cached : {c' : List ℕ} → RefinesCached c' s s' st t f (Ok e) → Invariant c' s' t rs'
+    invariant_cached d = set_done i p.registers d.step d.cache put
 
   -- a step that does not fit
-  pub refines_rollback : Refines s s' st f r → r ≡ outcome.Full → RollbackRequires c s' st
-  refines_rollback w q = full_rollback p.sound (record { step = refines_full f r w q; cache = p.cache.past })
+  pub refines_rollback : RefinesFull s s' st f → RollbackRequires c s' st
+  refines_rollback w = rollback_of p.sound w.long w.kept p.cache.past
 
-  pub cached_rollback : {c' : List ℕ} → RefinesCached c' s s' st f r → r ≡ outcome.Full → RollbackRequires c' s' st
-  cached_rollback w q = full_rollback p.sound (cached_at f r w q)
+  pub cached_rollback : {c' : List ℕ} {t : State} {x : Full} → RefinesCached c' s s' st t f (Err x) → RollbackRequires c' s' st
+  cached_rollback w = full_rollback p.sound w
 
 pub invariant_rollback : {c' s s' : List ℕ} {st st' : State} {rs : List Register}
     → RegistersValid st.count rs → RollbackEnsures c' s s' st st' → Invariant c' s' st' rs
@@ -105,11 +101,11 @@ invariant_rollback {s' = s'} {st' = st'} {rs = rs} g r =
 
 -- a step that leaves the cache alone
 pub refines_cached : {c s : List ℕ} (s' : List ℕ) {st : State} {rs : List Register} → Invariant c s st rs
-    → (f : Step indices) (r : Outcome)
-    → Refines s s' st f r → RefinesCached c s s' st f r
-refines_cached {s = s} s' {st} p f (outcome.Edge e t) d =
+    → (t : State) (f : Step indices) (r : Result Edge Full)
+    → Refines s s' st t f r → RefinesCached c s s' st t f r
+refines_cached {s = s} s' {st} p t f (Ok e) d =
     record { step = d; cache = remembers_more s s' st t d.grown d.epoch (refines_count d) p.cache }
-refines_cached s' p f outcome.Full d = record { step = d; cache = p.cache.past }
+refines_cached s' p t f (Err x) d = record { step = d; cache = p.cache.past }
 
 -- a collection
 

@@ -30,8 +30,7 @@ use Rattle.diagram.specs.Sets.{PrefixOf}
 use Rattle.diagram.specs.SetsLaws.{prefix_refl}
 use Rattle.diagram.specs.Node.{node_at, Decides}
 use Rattle.diagram.specs.Table.{Absent}
-use Rattle.diagram.specs.Make.{MakeAt, MakeEnsures, FoundOrAdded, old, new}
-use Rattle.diagram.specs.MakeLaws.{make_at, make_full}
+use Rattle.diagram.specs.Make.{MakeAt, MakeFull, FoundOrAdded, old, new}
 use Rattle.diagram.specs.Store.{nodes_of, set_of, tensor_of, Sound, RefinesEdge, RefinesFull}
 use Rattle.diagram.specs.StoreLaws.{nodes_length, node_at_lem, refines_stays}
 use Rattle.diagram.specs.Join.{JoinRequires, NodeMaskEnsures}
@@ -42,8 +41,6 @@ use Rattle.diagram.specs.TestLaws.{cases, no_some}
 use Rattle.diagram.specs.declared.node.Node.{Node}
 use Rattle.diagram.specs.declared.node.Edge.{Edge}
 use Rattle.diagram.specs.declared.make.State.{State}
-use Rattle.diagram.specs.declared.make.Slot.{Slot}
-use Rattle.diagram.specs.declared.make.Slot.TheVariants.{At, Full}
 
 module _ (d : ℕ) (xs : List Node) (c : Canonical d xs) where
   abbrev ts : Set d
@@ -287,10 +284,9 @@ module _ {s : List ℕ} {st : State} {k : ℕ} {l h : Edge} (held : Sound s st) 
             is = join_more indices xs held.nodes k l h mask w x inside vl vh fl fh ne z mask_is (missing a);
           }
 
-      module _ {s' : List ℕ} (r : Slot) (made : MakeEnsures s s' st x r) where
-        pub join_full : r ≡ Full → RefinesFull s s' st (join k (tensor_of s st l) (tensor_of s st h))
-        join_full e =
-            let n = make_full r made e in
+      module _ {s' : List ℕ} where
+        pub join_full : MakeFull s s' st x → RefinesFull s s' st (join k (tensor_of s st l) (tensor_of s st h))
+        join_full n =
             rw n.same record {
               long = refl;
               kept = refl;
@@ -298,14 +294,11 @@ module _ {s : List ℕ} {st : State} {k : ℕ} {l h : Edge} (held : Sound s st) 
                   (omega (arith, len, n.full));
             }
 
-        pub join_made : {n : ℕ} {st' : State} → r ≡ At n st'
+        pub join_made : {n : ℕ} {st' : State} → MakeAt s s' st st' x n
             → RefinesEdge s s' st st' (join k (tensor_of s st l) (tensor_of s st h)) (record { weight = w; node = n })
         unfolding tensor_of set_of nodes_of
-        join_made {n} {st'} e = go at.entered
+        join_made {n} {st'} at = go at.entered
           where
-            at : MakeAt s s' st st' x n
-            at = make_at r made e
-
             done : (ys : List Node) → nodes_of s' st' ≡ ys → After ys n
                 → RefinesEdge s s' st st' does (record { weight = w; node = n })
             done ys q a =

@@ -28,6 +28,7 @@ pub mod Insert
 pub mod Make
 pub mod Normalise
 pub mod Join
+pub mod Diagram
 pub mod Edge
 pub mod Value
 pub mod Restore

@@ -1,5 +1,6 @@
 -- Laws of lowering in the store: what each of its cases gives; one index as a set.
 use Rattle.std.specs.Prelude.{◌≡◌, refl, ◌≢◌, Bool, true, false, not, List, ℕ, ◌-◌, ◌/◌, ◌^◌, ◌≤◌, ◌<◌, eqb}
+use Rattle.std.specs.Prelude.{Result, Ok, Err}
 use Rattle.std.proofs.Common.{ap, sym, ◌∙◌, true≢false, arith, eqb-true}
 use Rattle.std.proofs.Math.Option.{some}
 use Rattle.std.specs.Int.Bits.{bit_and, and_zero_r}
@@ -22,13 +23,13 @@ use Rattle.diagram.specs.TallyLowsOneLaws.{one_zero, one_no_clash, one_low}
 use Rattle.diagram.specs.Meaning.{tensor_at, edge_in, Valid}
 use Rattle.diagram.specs.Store.{set_of, tensor_of, level_of, Sound, Refines}
 use Rattle.diagram.specs.EdgeLaws.{index_inside}
-use Rattle.diagram.specs.Edge.{CofactorRequires, IsCofactor}
+use Rattle.diagram.specs.Edge.{IsMultiple, CofactorRequires, IsCofactor}
 use Rattle.diagram.specs.Join.{JoinRequires}
 use Rattle.diagram.specs.StoreLaws.{join_grows, tensor_kept}
 use Rattle.diagram.specs.Cache.{KeyFits, op_step, key_step}
-use Rattle.diagram.specs.Operation.{OperationRequires, RefinesCached, lowest_of, MultipleOutcome, high_step}
+use Rattle.diagram.specs.Operation.{OperationRequires, RefinesCached, lowest_of, high_step}
 use Rattle.diagram.specs.Operation.{HighRequires, edges_measure, PartsGrow}
-use Rattle.diagram.specs.OperationLaws.{cached_at, cached_stays, cached_step, cached_as, cached_scaled}
+use Rattle.diagram.specs.OperationLaws.{cached_stays, cached_step, cached_as, cached_scaled, cached_scaled_full}
 use Rattle.diagram.specs.OperationHalvesLaws.{measure_same, top_node, edge_covers, one_tensor}
 use Rattle.diagram.specs.OperationHalvesLaws.{low_part_full, high_part_ready, high_part_measure, low_part_refines}
 use Rattle.diagram.specs.OperationHalvesLaws.{high_part_full, high_ready, high_joinable, high_part_refines}
@@ -36,8 +37,7 @@ use Rattle.diagram.specs.Lower.{LowerRequires, LowsRequires, LowsReduced, lows_f
 use Rattle.diagram.specs.declared.node.Edge.{Edge}
 use Rattle.diagram.specs.declared.make.State.{State}
 use Rattle.diagram.specs.declared.cache.Op.TheVariants as ops
-use Rattle.diagram.specs.declared.join.Outcome.{Outcome}
-use Rattle.diagram.specs.declared.join.Outcome.TheVariants as outcome
+use Rattle.diagram.specs.declared.diagram.Full.{Full}
 
 -- one index, as a set
 module _ {c s : List ℕ} {st : State} {a : Edge} {k m : ℕ} (g : OperationRequires c s st a a)
@@ -52,10 +52,11 @@ module _ {c s : List ℕ} {st : State} {a : Edge} {k m : ℕ} (g : OperationRequ
     no_clash = rw e (one_no_clash k x.first below _ x.free);
   }
 
-  pub lower_refines : (c' s' : List ℕ) (r : Outcome) → RefinesCached c' s s' st (lows (bits m) (tensor_of s st a)) r
-      → RefinesCached c' s s' st (low k (tensor_of s st a)) r
-  lower_refines c' s' r w =
-      cached_as c' s s' st _ _ r
+  pub lower_refines : (c' s' : List ℕ) (t : State) (r : Result Edge Full)
+      → RefinesCached c' s s' st t (lows (bits m) (tensor_of s st a)) r
+      → RefinesCached c' s s' st t (low k (tensor_of s st a)) r
+  lower_refines c' s' t r w =
+      cached_as c' s s' st t _ _ r
       (one_low k x.first below _ (set_of s st) x.free (edge_covers g.sound g.left)) (rw e at w)
 
 -- the test for 7, on the masks of m and of a
@@ -86,7 +87,7 @@ lows_part {m = m} {k} {b} x p =
 module _ {c s : List ℕ} {st : State} {a : Edge} {m u : ℕ} (g : OperationRequires c s st a a) (x : LowsRequires s st a m)
     (is : u ≡ support_mask (tensor_of s st a)) where
   -- a depends on no index of m: a itself
-  pub lows_none : bit_and m u ≡ 0 → RefinesCached c s s st (lows (bits m) (tensor_of s st a)) (outcome.Edge a st)
+  pub lows_none : bit_and m u ≡ 0 → RefinesCached c s s st st (lows (bits m) (tensor_of s st a)) (Ok a)
   lows_none z =
       cached_stays g g.left
       (lows_same (bits m) _ (none_common m _ (rw (← is) z)) (set_of s st) (edge_covers g.sound g.left))
@@ -136,11 +137,20 @@ module _ {c s : List ℕ} {st : State} {a : Edge} {m u : ℕ} (g : OperationRequ
     unfolding tensor_of edge_in
     scaled = lows_scaled (to_weight a.weight) wn (bits m) _
 
-    pub lows_times : (c' s' : List ℕ) (y q : Outcome)
-        → RefinesCached c' s s' st (lows (bits m) (tensor_of s st (record { weight = 1; node = a.node }))) y
-        → MultipleOutcome a.weight y q → RefinesCached c' s s' st (lows (bits m) (tensor_of s st a)) q
-    lows_times c' s' y q w t =
-        cached_scaled c' s s' st y q g.left.small has_weight (rw (one_tensor s st a.node) scaled) w t
+    reduced_scaled : ScaledStep (to_weight a.weight)
+        (lows (bits m) (tensor_of s st (record { weight = 1; node = a.node }))) (lows (bits m) (tensor_of s st a))
+    reduced_scaled = rw (one_tensor s st a.node) scaled
+
+    module _ {c' s' : List ℕ} {t : State} where
+      pub lows_times : {e q : Edge}
+          → RefinesCached c' s s' st t (lows (bits m) (tensor_of s st (record { weight = 1; node = a.node }))) (Ok e)
+          → IsMultiple a.weight e q → RefinesCached c' s s' st t (lows (bits m) (tensor_of s st a)) (Ok q)
+      lows_times w y = cached_scaled reduced_scaled g.left.small has_weight w y
+
+      pub lows_times_full : {x : Full}
+          → RefinesCached c' s s' st t (lows (bits m) (tensor_of s st (record { weight = 1; node = a.node }))) (Err x)
+          → RefinesCached c' s s' st t (lows (bits m) (tensor_of s st a)) (Err x)
+      lows_times_full w = cached_scaled_full reduced_scaled w
 
 -- where the top goes
 pub lower_in_member : (m k : ℕ) {x : Bool} → x ≡ bits m k → x ≡ true → k - 1 ≡ lower_in (bits m) k
@@ -205,20 +215,22 @@ module _ {c s : List ℕ} {st : State} {a : Edge} {m : ℕ} (g : OperationRequir
 -- the low part
 module _ {c s : List ℕ} {st : State} {a a0 : Edge} {m k : ℕ} (g : OperationRequires c s st a a)
     (x : LowsReduced s st a m) (level : k ≡ level_of s st a)
-    (c0 : IsCofactor s st a k false a0) (c₁ s₁ : List ℕ) (r : Outcome)
-    (w : RefinesCached c₁ s s₁ st (lows (bits m) (tensor_of s st a0)) r) where
-  pub lows_low_full : r ≡ outcome.Full → RefinesCached c₁ s s₁ st (lows (bits m) (tensor_of s st a)) outcome.Full
-  lows_low_full q = low_part_full g (lows_inside g x level) (lows_lowest g x level) (lows_parts_at g x level)
-      (lows_whole g x level) c0 c0 c₁ s₁ r w q
+    (c0 : IsCofactor s st a k false a0) where
+  pub lows_low_full : {c₁ s₁ : List ℕ} {t : State} {y : Full}
+      → RefinesCached c₁ s s₁ st t (lows (bits m) (tensor_of s st a0)) (Err y)
+      → RefinesCached c₁ s s₁ st t (lows (bits m) (tensor_of s st a)) (Err y)
+  lows_low_full w = low_part_full g (lows_inside g x level) (lows_lowest g x level) (lows_parts_at g x level)
+      (lows_whole g x level) c0 c0 w
 
-  module _ {l : Edge} {t : State} (q : r ≡ outcome.Edge l t) where
+  module _ {c₁ s₁ : List ℕ} {t : State} {l : Edge}
+      (w : RefinesCached c₁ s s₁ st t (lows (bits m) (tensor_of s st a0)) (Ok l)) where
     pub lows_high_ready : HighRequires c₁ s₁ t a a k (lower_in (bits m) k) l
     lows_high_ready = high_part_ready g (lows_inside g x level) (lows_lowest g x level) (lows_parts_at g x level)
-        (lows_whole g x level) c0 c0 c₁ s₁ r w q
+        (lows_whole g x level) c0 c0 w
 
     pub lows_measure : edges_measure s₁ t a a ≡ edges_measure s st a a
     lows_measure = high_part_measure g (lows_inside g x level) (lows_lowest g x level) (lows_parts_at g x level)
-        (lows_whole g x level) c0 c0 c₁ s₁ r w q
+        (lows_whole g x level) c0 c0 w
 
     -- a keeps its tensor
     pub lows_still : LowsReduced s₁ t a m
@@ -227,22 +239,21 @@ module _ {c s : List ℕ} {st : State} {a a0 : Edge} {m k : ℕ} (g : OperationR
       requires = record {
         small = x.requires.small;
         zero = x.requires.zero;
-        no_clash = rw (tensor_kept s s₁ st t (cached_at _ r w q).step.grown g.left) x.requires.no_clash;
+        no_clash = rw (tensor_kept s s₁ st t w.step.grown g.left) x.requires.no_clash;
       };
       node = x.node;
     }
 
-    pub lows_low_refines : (c₂ s₂ : List ℕ) (y : Outcome)
-        → RefinesCached c₂ s₁ s₂ t (high_step (lows_first (bits m)) (join (lower_in (bits m) k)) k (tensor_of s₁ t a)
+    pub lows_low_refines : (c₂ s₂ : List ℕ) (u : State) (y : Result Edge Full)
+        → RefinesCached c₂ s₁ s₂ t u (high_step (lows_first (bits m)) (join (lower_in (bits m) k)) k (tensor_of s₁ t a)
         (tensor_of s₁ t a) (tensor_of s₁ t l)) y
-        → RefinesCached c₂ s s₂ st (lows (bits m) (tensor_of s st a)) y
-    lows_low_refines c₂ s₂ y h = low_part_refines g (lows_inside g x level) (lows_lowest g x level)
-        (lows_parts_at g x level) (lows_whole g x level) c0 c0 c₁ s₁ r w q c₂ s₂ y h
+        → RefinesCached c₂ s s₂ st u (lows (bits m) (tensor_of s st a)) y
+    lows_low_refines c₂ s₂ u y h = low_part_refines g (lows_inside g x level) (lows_lowest g x level)
+        (lows_parts_at g x level) (lows_whole g x level) c0 c0 w c₂ s₂ u y h
 
 -- the high part
 module _ {c s : List ℕ} {st : State} {a a1 l : Edge} {m k : ℕ} (w : HighRequires c s st a a k (lower_in (bits m) k) l)
-    (x : LowsReduced s st a m) (c1 : IsCofactor s st a k true a1) (c₁ s₁ : List ℕ) (r : Outcome)
-    (h : RefinesCached c₁ s s₁ st (lows (bits m) (tensor_of s st a1)) r) where
+    (x : LowsReduced s st a m) (c1 : IsCofactor s st a k true a1) where
   level : k ≡ level_of s st a
   level = omega (arith, w.lowest)
 
@@ -250,18 +261,21 @@ module _ {c s : List ℕ} {st : State} {a a1 l : Edge} {m k : ℕ} (w : HighRequ
       (join (lower_in (bits m) k))
   u = lows_parts_at w.ready x level
 
-  pub lows_high_full : r ≡ outcome.Full
-      → RefinesCached c₁ s s₁ st (high_step (lows_first (bits m)) (join (lower_in (bits m) k)) k (tensor_of s st a)
-      (tensor_of s st a) (tensor_of s st l)) outcome.Full
-  lows_high_full e = high_part_full w u c1 c1 c₁ s₁ r h e
+  pub lows_high_full : {c₁ s₁ : List ℕ} {t : State} {y : Full}
+      → RefinesCached c₁ s s₁ st t (lows (bits m) (tensor_of s st a1)) (Err y)
+      → RefinesCached c₁ s s₁ st t (high_step (lows_first (bits m)) (join (lower_in (bits m) k)) k (tensor_of s st a)
+      (tensor_of s st a) (tensor_of s st l)) (Err y)
+  lows_high_full h = high_part_full w u c1 c1 h
 
-  module _ {y : Edge} {t : State} (e : r ≡ outcome.Edge y t) {j : ℕ} (to : j ≡ lower_in (bits m) k) where
+  module _ {c₁ s₁ : List ℕ} {t : State} {y : Edge}
+      (h : RefinesCached c₁ s s₁ st t (lows (bits m) (tensor_of s st a1)) (Ok y)) {j : ℕ}
+      (to : j ≡ lower_in (bits m) k) where
     pub lows_joinable : Sound s₁ t × JoinRequires s₁ t j l y
-    lows_joinable = rw to ((high_ready w u c1 c1 c₁ s₁ r h e).sound, high_joinable w u c1 c1 c₁ s₁ r h e)
+    lows_joinable = rw to ((high_ready w u c1 c1 h).sound, high_joinable w u c1 c1 h)
 
-    pub lows_high_refines : (s₂ : List ℕ) (q : Outcome)
-        → Refines s₁ s₂ t (join j (tensor_of s₁ t l) (tensor_of s₁ t y)) q
-        → RefinesCached c₁ s s₂ st (high_step (lows_first (bits m)) (join (lower_in (bits m) k)) k (tensor_of s st a)
-        (tensor_of s st a) (tensor_of s st l)) q
-    lows_high_refines s₂ q d = high_part_refines w u c1 c1 c₁ s₁ r h e c₁ s₂ q
-        (cached_step s₂ _ q (high_ready w u c1 c1 c₁ s₁ r h e) (rw to at d))
+    pub lows_high_refines : (c₂ s₂ : List ℕ) (q : State) (z : Result Edge Full) → c₂ ≡ c₁
+        → Refines s₁ s₂ t q (join j (tensor_of s₁ t l) (tensor_of s₁ t y)) z
+        → RefinesCached c₂ s s₂ st q (high_step (lows_first (bits m)) (join (lower_in (bits m) k)) k (tensor_of s st a)
+        (tensor_of s st a) (tensor_of s st l)) z
+    lows_high_refines c₂ s₂ q z e d = high_part_refines w u c1 c1 h c₂ s₂ q z
+        (cached_step s₂ q _ z (high_ready w u c1 c1 h) e (rw to at d))

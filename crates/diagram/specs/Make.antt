@@ -4,8 +4,6 @@ use Rattle.diagram.specs.Node.{capacity, node_at, listed}
 use Rattle.diagram.specs.Table.{TableSound, Absent}
 use Rattle.diagram.specs.declared.node.Node.{Node}
 use Rattle.diagram.specs.declared.make.State.{State}
-use Rattle.diagram.specs.declared.make.Slot.{Slot}
-use Rattle.diagram.specs.declared.make.Slot.TheVariants.{At, Full}
 
 -- the store has room for as many nodes as the state says, and holds their unique table where it holds a record at all
 pub record StateSound (s : List ℕ) (st : State) : Type 0 where
@@ -33,7 +31,3 @@ pub record MakeFull (s s' : List ℕ) (st : State) (x : Node) : Type 0 where
   pub same : s' ≡ s
   pub absent : Absent (node_at s) st.count x
   pub full : capacity s ≤ st.count
-
-abbrev pub MakeEnsures : List ℕ → List ℕ → State → Node → Slot → Type 0
-MakeEnsures s s' st x (At r st') = MakeAt s s' st st' x r
-MakeEnsures s s' st x Full = MakeFull s s' st x

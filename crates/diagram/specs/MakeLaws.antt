@@ -1,14 +1,12 @@
 -- Laws of making a node: found, added, or no room.
 use Rattle.std.specs.Prelude.{◌≡◌, refl, ◌≢◌, List, ℕ, ◌+◌, ◌≤◌}
-use Rattle.std.proofs.Common.{subst, ◌∙◌, arith}
+use Rattle.std.proofs.Common.{◌∙◌, arith}
 use Rattle.diagram.specs.Node.{capacity, node_at}
 use Rattle.diagram.specs.Table.{TableSound, FindEnsures}
 use Rattle.diagram.specs.Insert.{AppendEnsures, RebuildEnsures}
-use Rattle.diagram.specs.Make.{old, MakeFull, MakeEnsures, MakeAt, new, StateSound}
+use Rattle.diagram.specs.Make.{old, MakeFull, MakeAt, new, StateSound}
 use Rattle.diagram.specs.declared.node.Node.{Node}
 use Rattle.diagram.specs.declared.make.State.{State}
-use Rattle.diagram.specs.declared.make.Slot.{Slot}
-use Rattle.diagram.specs.declared.make.Slot.TheVariants.{At, Full}
 
 pub state_sound_table : {s : List ℕ} {st : State} {room : ℕ} → StateSound s st → room ≡ capacity s → room ≢ 0
     → TableSound s st.count st.buckets
@@ -16,14 +14,6 @@ state_sound_table t e p = t.table (omega arith)
 
 pub state_sound_of : {s : List ℕ} {st : State} → TableSound s st.count st.buckets → StateSound s st
 state_sound_of t = record { room = t.room; numbered = t.numbered; table = λ _. t }
-
-pub make_at : {s s' : List ℕ} {st : State} {x : Node} {n : ℕ} {st' : State} (r : Slot) → MakeEnsures s s' st x r
-    → r ≡ At n st' → MakeAt s s' st st' x n
-make_at {s} {s'} {st} {x} r m e = subst (MakeEnsures s s' st x) e m
-
-pub make_full : {s s' : List ℕ} {st : State} {x : Node} (r : Slot) → MakeEnsures s s' st x r → r ≡ Full
-    → MakeFull s s' st x
-make_full {s} {s'} {st} {x} r m e = subst (MakeEnsures s s' st x) e m
 
 -- the three answers, as the code comes to them
 

@@ -1,18 +1,15 @@
 -- What sum, contraction and lowering ask and promise, and what is known between their low and their high part.
-use Rattle.std.specs.Prelude.{◌≡◌, List, Bool, true, ℕ, min, suc, ◌-◌, ◌≤◌, ◌<◌}
+use Rattle.std.specs.Prelude.{◌≡◌, List, Bool, true, ℕ, min, suc, ◌-◌, ◌≤◌, ◌<◌, Result, MatchResult}
 use Rattle.diagram.specs.Tensor.{indices, Tensor, fix, index_count}
 use Rattle.diagram.specs.Tally.{Step, Set, Binary, ◌>>=◌}
 use Rattle.diagram.specs.Meaning.{Valid}
 use Rattle.diagram.specs.Store.{level_of, tensor_of, Sound, Refines}
-use Rattle.diagram.specs.Edge.{IsMultiple}
-use Rattle.diagram.specs.Cache.{EdgeFits, RememberEnsures, NoneLater, Remembers}
+use Rattle.diagram.specs.Cache.{NoneLater, Remembers}
 use Rattle.diagram.specs.Top.{FreeBelow}
 use Rattle.diagram.specs.Sets.{PrefixOf}
 use Rattle.diagram.specs.declared.node.Edge.{Edge}
 use Rattle.diagram.specs.declared.make.State.{State}
-use Rattle.diagram.specs.declared.cache.Key.{Key}
-use Rattle.diagram.specs.declared.join.Outcome.{Outcome}
-use Rattle.diagram.specs.declared.join.Outcome.TheVariants as outcome
+use Rattle.diagram.specs.declared.diagram.Full.{Full}
 
 -- what an operation asks: a sound store, two edges of it, and a cache that remembers only what is stable
 pub record OperationRequires (c s : List ℕ) (st : State) (a b : Edge) : Type 0 where
@@ -22,33 +19,18 @@ pub record OperationRequires (c s : List ℕ) (st : State) (a b : Edge) : Type 0
   pub cache : Remembers c s st
 
 -- The cache after a step: it remembers only what is stable; after one that did not fit, nothing is of a later epoch.
-abbrev pub CacheAfter : List ℕ → List ℕ → State → Outcome → Type 0
-CacheAfter c' s' st (outcome.Edge e st') = Remembers c' s' st'
-CacheAfter c' s' st outcome.Full = NoneLater c' st.epoch
+abbrev pub CacheAfter : List ℕ → List ℕ → State → State → Result Edge Full → Type 0
+CacheAfter c' s' st st' r = MatchResult r (λ _. Remembers c' s' st') (λ _. NoneLater c' st.epoch)
 
--- what an operation that does the step f promises of its outcome
-pub record RefinesCached (c' s s' : List ℕ) (st : State) (f : Step indices) (r : Outcome) : Type 0 where
-  pub step : Refines s s' st f r
-  pub cache : CacheAfter c' s' st r
+-- what an operation that does the step f promises of its result
+pub record RefinesCached (c' s s' : List ℕ) (st st' : State) (f : Step indices) (r : Result Edge Full)
+    : Type 0 where
+  pub step : Refines s s' st st' f r
+  pub cache : CacheAfter c' s' st st' r
 
 -- "k is the lower top"
 abbrev pub lowest_of : List ℕ → State → Edge → Edge → ℕ
 lowest_of s st a b = min (level_of s st a) (level_of s st b)
-
--- an outcome whose edge, if there is one, an entry of the cache has room for
-abbrev pub OutcomeFits : Outcome → Type 0
-OutcomeFits (outcome.Edge e st) = EdgeFits e
-OutcomeFits outcome.Full = Unit {0}
-
--- the outcome r is w times the other outcome
-abbrev pub MultipleOutcome : ℕ → Outcome → Outcome → Type 0
-MultipleOutcome w (outcome.Edge e st) r = (f : Edge) × (IsMultiple w e f × (r ≡ outcome.Edge f st))
-MultipleOutcome w outcome.Full r = r ≡ outcome.Full
-
--- the outcome was remembered, unless it is full
-abbrev pub KeepEnsures : List ℕ → List ℕ → ℕ → Key → Outcome → Type 0
-KeepEnsures c c' epoch k (outcome.Edge e st) = RememberEnsures c c' epoch k e
-KeepEnsures c c' epoch k outcome.Full = c' ≡ c
 
 -- the high part, where L is the answer of the low part: both rec k A B final is the low part and then this
 unfoldable pub high_step : Binary indices → Binary indices → ℕ → Tensor indices → Tensor indices → Tensor indices

@@ -1,5 +1,5 @@
 -- Laws of operations in two parts, at the lower of the tops: what sum, contraction and lowering share.
-use Rattle.std.specs.Prelude.{◌≡◌, ◌≢◌, Bool, true, false, cond, List, ℕ, suc, ◌<◌, min, leb}
+use Rattle.std.specs.Prelude.{◌≡◌, ◌≢◌, Bool, true, false, cond, List, ℕ, suc, ◌<◌, min, leb, Result, Ok, Err}
 use Rattle.std.proofs.Math.Path.{refl, ap}
 use Rattle.std.proofs.Common.{ap₂, sym, subst, ◌∙◌, leb-true, leb-false}
 use Rattle.std.proofs.Math.Option.{none, some}
@@ -25,11 +25,10 @@ use Rattle.diagram.specs.Edge.{CofactorRequires, IsCofactor}
 use Rattle.diagram.specs.Join.{JoinRequires}
 use Rattle.diagram.specs.Operation.{OperationRequires, RefinesCached, lowest_of, edges_measure, high_step}
 use Rattle.diagram.specs.Operation.{HighRequires, PartsGrow}
-use Rattle.diagram.specs.OperationLaws.{cached_at, cached_then, cached_full_more}
+use Rattle.diagram.specs.OperationLaws.{cached_then, cached_full_more}
 use Rattle.diagram.specs.declared.node.Edge.{Edge}
 use Rattle.diagram.specs.declared.make.State.{State}
-use Rattle.diagram.specs.declared.join.Outcome.{Outcome}
-use Rattle.diagram.specs.declared.join.Outcome.TheVariants as outcome
+use Rattle.diagram.specs.declared.diagram.Full.{Full}
 
 -- a weight taken out changes no level
 pub measure_same : (s : List ℕ) (st : State) (a b a' b' : Edge) → a'.node ≡ a.node → b'.node ≡ b.node
@@ -149,40 +148,38 @@ module _ {c s : List ℕ} {st : State} {a b a' b' : Edge} {k j : ℕ} {F : Step 
     (g : OperationRequires c s st a b) (i : k < index_count) (m : k ≡ lowest_of s st a b)
     (v : PartsGrow (tensor_of s st a) (tensor_of s st b) k j rec final)
     (whole : F ≡ both rec k (tensor_of s st a) (tensor_of s st b) final) (ca : IsCofactor s st a k false a')
-    (cb : IsCofactor s st b k false b') (c₁ s₁ : List ℕ) (r : Outcome)
-    (w : RefinesCached c₁ s s₁ st (rec (tensor_of s st a') (tensor_of s st b')) r) where
+    (cb : IsCofactor s st b k false b') where
   low_is : rec (tensor_of s st a') (tensor_of s st b') ≡ rec (fix k false (tensor_of s st a))
       (fix k false (tensor_of s st b))
   low_is = ap₂ rec ca.is cb.is
 
-  pub low_part_full : r ≡ outcome.Full → RefinesCached c₁ s s₁ st F outcome.Full
-  low_part_full e =
-      cached_full_more F (cached_at _ r w e) (rw (low_is, low_high _ _ k F rec final whole (set_of s st))
-      (high_grows v _ _))
+  pub low_part_full : {c₁ s₁ : List ℕ} {t : State} {x : Full}
+      → RefinesCached c₁ s s₁ st t (rec (tensor_of s st a') (tensor_of s st b')) (Err x)
+      → RefinesCached c₁ s s₁ st t F (Err x)
+  low_part_full w =
+      cached_full_more F w (rw (low_is, low_high _ _ k F rec final whole (set_of s st)) (high_grows v _ _))
 
-  module _ {l : Edge} {t : State} (e : r ≡ outcome.Edge l t) where
-    low_cached : RefinesCached c₁ s s₁ st (rec (tensor_of s st a') (tensor_of s st b')) (outcome.Edge l t)
-    low_cached = cached_at _ r w e
-
+  module _ {c₁ s₁ : List ℕ} {t : State} {l : Edge}
+      (w : RefinesCached c₁ s s₁ st t (rec (tensor_of s st a') (tensor_of s st b')) (Ok l)) where
     low_done : rec (fix k false (tensor_of s st a)) (fix k false (tensor_of s st b)) (set_of s st)
         ≡ (tensor_of s₁ t l, set_of s₁ t)
-    low_done = rw low_is at low_cached.step.is
+    low_done = rw low_is at w.step.is
 
     kept : (x : Edge) → Valid st.count x → level_of s₁ t x ≡ level_of s st x
     unfolding level_of
-    kept x u = level_kept indices low_cached.step.grown (rw (nodes_length s st) u)
+    kept x u = level_kept indices w.step.grown (rw (nodes_length s st) u)
 
     pub high_part_ready : HighRequires c₁ s₁ t a b k j l
     high_part_ready = record {
       ready = record {
-        sound = low_cached.step.sound;
-        left = valid_more _ (refines_count low_cached.step) g.left;
-        right = valid_more _ (refines_count low_cached.step) g.right;
-        cache = low_cached.cache;
+        sound = w.step.sound;
+        left = valid_more _ (refines_count w.step) g.left;
+        right = valid_more _ (refines_count w.step) g.right;
+        cache = w.cache;
       };
       inside = i;
       lowest = omega (arith, m, kept a g.left, kept b g.right);
-      low = low_cached.step.valid;
+      low = w.step.valid;
       not_above = v.not_above;
       from_low = subst (FreeBelow (suc j)) (ap (λ q. q.0) low_done) (v.rec_from false (set_of s st));
     }
@@ -191,62 +188,62 @@ module _ {c s : List ℕ} {st : State} {a b a' b' : Edge} {k j : ℕ} {F : Step 
     unfolding edges_measure
     high_part_measure = omega (arith, kept a g.left, kept b g.right)
 
-    pub low_part_refines : (c₂ s₂ : List ℕ) (q : Outcome)
-        → RefinesCached c₂ s₁ s₂ t (high_step rec final k (tensor_of s₁ t a) (tensor_of s₁ t b) (tensor_of s₁ t l)) q
-        → RefinesCached c₂ s s₂ st F q
-    low_part_refines c₂ s₂ q h =
-        cached_then c₂ s₂ F _ q low_cached
+    pub low_part_refines : (c₂ s₂ : List ℕ) (u : State) (q : Result Edge Full)
+        → RefinesCached c₂ s₁ s₂ t u
+        (high_step rec final k (tensor_of s₁ t a) (tensor_of s₁ t b) (tensor_of s₁ t l)) q
+        → RefinesCached c₂ s s₂ st u F q
+    low_part_refines c₂ s₂ u q h =
+        cached_then c₂ s₂ u F _ q w
         (low_high _ _ k F rec final whole (set_of s st) ∙ rw (
           low_done,
-          tensor_kept s s₁ st t low_cached.step.grown g.left,
-          tensor_kept s s₁ st t low_cached.step.grown g.right,
+          tensor_kept s s₁ st t w.step.grown g.left,
+          tensor_kept s s₁ st t w.step.grown g.right,
         )) h
 
 -- the high part
 module _ {c s : List ℕ} {st : State} {a b a' b' l : Edge} {k j : ℕ} {rec final : Binary indices}
     (w : HighRequires c s st a b k j l) (v : PartsGrow (tensor_of s st a) (tensor_of s st b) k j rec final)
-    (ca : IsCofactor s st a k true a') (cb : IsCofactor s st b k true b') (c₁ s₁ : List ℕ) (r : Outcome)
-    (h : RefinesCached c₁ s s₁ st (rec (tensor_of s st a') (tensor_of s st b')) r) where
+    (ca : IsCofactor s st a k true a') (cb : IsCofactor s st b k true b') where
   high_is : rec (tensor_of s st a') (tensor_of s st b') ≡ rec (fix k true (tensor_of s st a))
       (fix k true (tensor_of s st b))
   high_is = ap₂ rec ca.is cb.is
 
-  pub high_part_full : r ≡ outcome.Full
-      → RefinesCached c₁ s s₁ st (high_step rec final k (tensor_of s st a) (tensor_of s st b) (tensor_of s st l))
-      outcome.Full
+  pub high_part_full : {c₁ s₁ : List ℕ} {t : State} {x : Full}
+      → RefinesCached c₁ s s₁ st t (rec (tensor_of s st a') (tensor_of s st b')) (Err x)
+      → RefinesCached c₁ s s₁ st t
+      (high_step rec final k (tensor_of s st a) (tensor_of s st b) (tensor_of s st l)) (Err x)
   unfolding high_step ◌>>=◌
-  high_part_full e = cached_full_more _ (cached_at _ r h e) (rw high_is (v.final_grows _ _ _))
+  high_part_full h = cached_full_more _ h (rw high_is (v.final_grows _ _ _))
 
-  module _ {x : Edge} {t : State} (e : r ≡ outcome.Edge x t) where
-    high_cached : RefinesCached c₁ s s₁ st (rec (tensor_of s st a') (tensor_of s st b')) (outcome.Edge x t)
-    high_cached = cached_at _ r h e
-
+  module _ {c₁ s₁ : List ℕ} {t : State} {x : Edge}
+      (h : RefinesCached c₁ s s₁ st t (rec (tensor_of s st a') (tensor_of s st b')) (Ok x)) where
     high_done : rec (fix k true (tensor_of s st a)) (fix k true (tensor_of s st b)) (set_of s st)
         ≡ (tensor_of s₁ t x, set_of s₁ t)
-    high_done = rw high_is at high_cached.step.is
+    high_done = rw high_is at h.step.is
 
     low_kept : tensor_of s₁ t l ≡ tensor_of s st l
-    low_kept = tensor_kept s s₁ st t high_cached.step.grown w.low
+    low_kept = tensor_kept s s₁ st t h.step.grown w.low
 
     pub high_ready : OperationRequires c₁ s₁ t l x
     high_ready = record {
-      sound = high_cached.step.sound;
-      left = valid_more _ (refines_count high_cached.step) w.low;
-      right = high_cached.step.valid;
-      cache = high_cached.cache;
+      sound = h.step.sound;
+      left = valid_more _ (refines_count h.step) w.low;
+      right = h.step.valid;
+      cache = h.cache;
     }
 
     pub high_joinable : JoinRequires s₁ t j l x
     high_joinable = record {
       inside = omega (arith, w.inside, w.not_above);
-      low = valid_more _ (refines_count high_cached.step) w.low;
-      high = high_cached.step.valid;
+      low = valid_more _ (refines_count h.step) w.low;
+      high = h.step.valid;
       from_low = rw low_kept w.from_low;
       from_high = subst (FreeBelow (suc j)) (ap (λ q. q.0) high_done) (v.rec_from true (set_of s st));
     }
 
-    pub high_part_refines : (c₂ s₂ : List ℕ) (q : Outcome)
-        → RefinesCached c₂ s₁ s₂ t (final (tensor_of s₁ t l) (tensor_of s₁ t x)) q
-        → RefinesCached c₂ s s₂ st (high_step rec final k (tensor_of s st a) (tensor_of s st b) (tensor_of s st l)) q
+    pub high_part_refines : (c₂ s₂ : List ℕ) (u : State) (q : Result Edge Full)
+        → RefinesCached c₂ s₁ s₂ t u (final (tensor_of s₁ t l) (tensor_of s₁ t x)) q
+        → RefinesCached c₂ s s₂ st u
+        (high_step rec final k (tensor_of s st a) (tensor_of s st b) (tensor_of s st l)) q
     unfolding high_step ◌>>=◌
-    high_part_refines c₂ s₂ q f = cached_then c₂ s₂ _ _ q high_cached (rw (high_done, low_kept)) f
+    high_part_refines c₂ s₂ u q f = cached_then c₂ s₂ u _ _ q h (rw (high_done, low_kept)) f

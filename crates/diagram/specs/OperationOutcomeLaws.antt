@@ -1,6 +1,7 @@
 -- What gates, `unit`, sum, contraction and lowering answer, in the documents' words: at each
 -- assignment v, as a number.
-use Rattle.std.specs.Prelude.{◌≡◌, refl, ◌↔◌, cond, List, ℕ, ◌-◌, ◌^◌, ◌<◌, length}
+use Rattle.std.proofs.lemmas.Bool.{false≢true}
+use Rattle.std.specs.Prelude.{◌≡◌, refl, ◌↔◌, cond, List, ℕ, ◌-◌, ◌^◌, ◌<◌, length, Result, Ok, Err, IsErr}
 use Rattle.std.proofs.Common.{ap, sym, ◌∙◌, arith}
 use Rattle.field.specs.Weight.{plus_w, times_w}
 use Rattle.diagram.specs.Tensor.{bits, at, value, assign, indices, indices_count}
@@ -20,8 +21,7 @@ use Rattle.diagram.specs.Lower.{LowerRequires}
 use Rattle.diagram.specs.declared.gate.Gate.{Gate}
 use Rattle.diagram.specs.declared.node.Edge.{Edge}
 use Rattle.diagram.specs.declared.make.State.{State}
-use Rattle.diagram.specs.declared.join.Outcome.{Outcome}
-use Rattle.diagram.specs.declared.join.Outcome.TheVariants as outcome
+use Rattle.diagram.specs.declared.diagram.Full.{Full}
 
 -- an answer's tensor and set are those of the step
 module _ {s s' : List ℕ} {st t : State} {e : Edge} {f : Step indices} (d : RefinesEdge s s' st t f e) where
@@ -51,13 +51,13 @@ module _ {s s' : List ℕ} {st t : State} {e : Edge} where
 
 module _ {c' s s' : List ℕ} {st t : State} {e : Edge} (a b : Edge) where
   -- "At each assignment sum adds the two values"
-  pub sum_answer : RefinesCached c' s s' st (sum (tensor_of s st a) (tensor_of s st b)) (outcome.Edge e t) → (v : ℕ)
+  pub sum_answer : RefinesCached c' s s' st t (sum (tensor_of s st a) (tensor_of s st b)) (Ok e) → (v : ℕ)
       → value (tensor_of s' t e) v ≡ plus_w (value (tensor_of s st a) v) (value (tensor_of s st b) v)
   sum_answer w v = rw (answer_tensor w.step) (sum_value (set_of s st) (tensor_of s st a) (tensor_of s st b) v)
 
   -- ".. and cont adds their products over all settings of S."
   pub contract_answer : (m : ℕ)
-      → RefinesCached c' s s' st (cont (tensor_of s st a) (tensor_of s st b) (bits m)) (outcome.Edge e t) → (v : ℕ)
+      → RefinesCached c' s s' st t (cont (tensor_of s st a) (tensor_of s st b) (bits m)) (Ok e) → (v : ℕ)
       → value (tensor_of s' t e) v ≡ settings indices (bits m)
       (λ f. times_w (at (tensor_of s st a) f) (at (tensor_of s st b) f)) (bits v)
   contract_answer m w v =
@@ -65,7 +65,7 @@ module _ {c' s s' : List ℕ} {st t : State} {e : Edge} (a b : Edge) where
 
 -- "index k is renamed k-1": at v the answer has a's value where index k takes the value of k - 1
 pub lower_answer : {c' s s' : List ℕ} {st t : State} {e : Edge} (a : Edge) (k : ℕ) → LowerRequires s st a k
-    → RefinesCached c' s s' st (low k (tensor_of s st a)) (outcome.Edge e t) → (v : ℕ)
+    → RefinesCached c' s s' st t (low k (tensor_of s st a)) (Ok e) → (v : ℕ)
     → value (tensor_of s' t e) v ≡ at (tensor_of s st a) (assign k (bits v (k - 1)) (bits v))
 lower_answer {s = s} {st = st} a k x w v =
     rw (answer_tensor w.step)
@@ -74,23 +74,20 @@ lower_answer {s = s} {st = st} a k x w v =
 -- "lowers every index of the set m at the same moment": at v the answer has a's value where each index k of m takes the
 -- value of k - 1
 pub lows_answer : {c' s s' : List ℕ} {st t : State} {e : Edge} (a : Edge) (m : ℕ)
-    → RefinesCached c' s s' st (lows (bits m) (tensor_of s st a)) (outcome.Edge e t) → (v : ℕ)
+    → RefinesCached c' s s' st t (lows (bits m) (tensor_of s st a)) (Ok e) → (v : ℕ)
     → value (tensor_of s' t e) v ≡ at (tensor_of s st a) (λ k. cond (bits m k) (bits v (k - 1)) (bits v k))
 lows_answer {s = s} {st = st} a m w v =
     rw (answer_tensor w.step) (lows_value (bits m) (tensor_of s st a) (set_of s st) v)
 
 -- "A call whose set would exceed the capacity is refused as 8 (full)", and no other: for gates and `unit` ..
-pub refines_full_exactly : (s s' : List ℕ) (st : State) (f : Step indices) (r : Outcome) → Refines s s' st f r
-    → (r ≡ outcome.Full) ↔ (capacity s < length (f (set_of s st)).1)
-refines_full_exactly s s' st f (outcome.Edge e t) d = (
-  λ q. absurd (let z : ◌≡◌ {A = ℕ} 0 1 = cc in omega arith),
-  λ p. absurd (omega (arith, p, refines_fits d)),
-)
-refines_full_exactly s s' st f outcome.Full o = (λ q. o.full, λ p. refl)
+pub refines_full_exactly : (s s' : List ℕ) (st t : State) (f : Step indices) (r : Result Edge Full)
+    → Refines s s' st t f r
+    → IsErr r ↔ (capacity s < length (f (set_of s st)).1)
+refines_full_exactly s s' st t f (Ok e) d = (λ q. absurd (false≢true q), λ p. absurd (omega (arith, p, refines_fits d)))
+refines_full_exactly s s' st t f (Err x) o = (λ q. o.full, λ p. refl)
 
 -- .. and for sum, contraction and lowering
-pub cached_full_exactly : (c' s s' : List ℕ) (st : State) (f : Step indices) (r : Outcome)
-    → RefinesCached c' s s' st f r
-    → (r ≡ outcome.Full) ↔ (capacity s < length (f (set_of s st)).1)
-cached_full_exactly c' s s' st f (outcome.Edge e t) w = refines_full_exactly s s' st f (outcome.Edge e t) w.step
-cached_full_exactly c' s s' st f outcome.Full w = refines_full_exactly s s' st f outcome.Full w.step
+pub cached_full_exactly : (c' s s' : List ℕ) (st t : State) (f : Step indices) (r : Result Edge Full)
+    → RefinesCached c' s s' st t f r
+    → IsErr r ↔ (capacity s < length (f (set_of s st)).1)
+cached_full_exactly c' s s' st t f r w = refines_full_exactly s s' st t f r w.step

@@ -1,5 +1,5 @@
 -- Laws of starting and of coming back: the store is sound and nothing is remembered.
-use Rattle.std.specs.Prelude.{◌≡◌, refl, List, ℕ, ◌*◌, ◌≤◌, ◌<◌, length}
+use Rattle.std.specs.Prelude.{◌≡◌, refl, List, ℕ, ◌*◌, ◌≤◌, ◌<◌, length, Err}
 use Rattle.std.proofs.Math.Path.{ap}
 use Rattle.std.proofs.Common.{arith}
 use Rattle.diagram.specs.Tally.{Step}
@@ -17,7 +17,7 @@ use Rattle.diagram.specs.Tensor.{indices}
 use Rattle.diagram.specs.Restore.{built, RebuiltOrNoRoom, no_room, RollbackEnsures, StartEnsures}
 use Rattle.diagram.specs.Restore.{RollbackRequires}
 use Rattle.diagram.specs.declared.make.State.{State}
-use Rattle.diagram.specs.declared.join.Outcome.TheVariants as outcome
+use Rattle.diagram.specs.declared.diagram.Full.{Full}
 
 -- the old nodes are where they were
 pub rollback_of : {c s s' : List ℕ} {st : State} → Sound s st → length s' ≡ length s → nodes_of s' st ≡ nodes_of s st
@@ -31,8 +31,8 @@ rollback_of h long kept past = record {
   past = past;
 }
 
-pub full_rollback : {c' s s' : List ℕ} {st : State} {f : Step indices} → Sound s st
-    → RefinesCached c' s s' st f outcome.Full → RollbackRequires c' s' st
+pub full_rollback : {c' s s' : List ℕ} {st t : State} {f : Step indices} {x : Full} → Sound s st
+    → RefinesCached c' s s' st t f (Err x) → RollbackRequires c' s' st
 full_rollback h w = rollback_of h w.step.long w.step.kept w.cache
 
 pub rollback_table : {c s : List ℕ} {st : State} → RollbackRequires c s st → 16 ≤ length s

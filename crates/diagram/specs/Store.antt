@@ -1,5 +1,5 @@
 -- What a store's bytes mean, when they are sound, and what each operation on a store promises.
-use Rattle.std.specs.Prelude.{◌≡◌, List, ℕ, ◌<◌, length}
+use Rattle.std.specs.Prelude.{◌≡◌, List, ℕ, ◌<◌, length, Result, MatchResult}
 use Rattle.diagram.specs.Tensor.{indices, Tensor}
 use Rattle.diagram.specs.Tally.{Set, Step}
 use Rattle.diagram.specs.Sets.{PrefixOf}
@@ -10,8 +10,7 @@ use Rattle.diagram.specs.Canonical.{Canonical}
 use Rattle.diagram.specs.declared.node.Node.{Node}
 use Rattle.diagram.specs.declared.node.Edge as edges
 use Rattle.diagram.specs.declared.make.State.{State}
-use Rattle.diagram.specs.declared.join.Outcome.{Outcome}
-use Rattle.diagram.specs.declared.join.Outcome.TheVariants as outcome
+use Rattle.diagram.specs.declared.diagram.Full.{Full}
 
 -- "Nodes are numbered from 1": the nodes that the store holds, in order
 unfoldable pub nodes_of : List ℕ → State → List Node
@@ -50,7 +49,6 @@ pub record RefinesFull (s s' : List ℕ) (st : State) (f : Step indices) : Type 
   pub kept : nodes_of s' st ≡ nodes_of s st
   pub full : capacity s < length (f (set_of s st)).1
 
--- what a function that does the step f promises of its outcome
-abbrev pub Refines : List ℕ → List ℕ → State → Step indices → Outcome → Type 0
-Refines s s' st f (outcome.Edge e st') = RefinesEdge s s' st st' f e
-Refines s s' st f outcome.Full = RefinesFull s s' st f
+-- what a function that does the step f promises of its result
+abbrev pub Refines : List ℕ → List ℕ → State → State → Step indices → Result edges.Edge Full → Type 0
+Refines s s' st st' f r = MatchResult r (λ e. RefinesEdge s s' st st' f e) (λ _. RefinesFull s s' st f)

@@ -1,8 +1,9 @@
 -- Laws of sound stores, and of steps on a store one after another: what stays, and the promise of the whole from those
 -- of its parts.
 use Rattle.std.specs.Prelude.{◌≡◌, refl, true, false, Bool, List, ◌++◌, ℕ, zero, suc, ◌-◌, ◌≤◌, length, take}
+use Rattle.std.specs.Prelude.{Result, Ok, Err}
 use Rattle.std.proofs.Math.Path.{ap, sym}
-use Rattle.std.proofs.Common.{subst, ◌∙◌, ap₂, arith, length-append}
+use Rattle.std.proofs.Common.{◌∙◌, ap₂, arith, length-append}
 use Rattle.std.proofs.Math.Option.{some}
 use Rattle.std.proofs.Math.Seq.{take-append_seam}
 use Rattle.field.specs.Weight.{Weight, 0w}
@@ -22,16 +23,7 @@ use Rattle.diagram.specs.Store.{nodes_of, tensor_of, Sound, RefinesEdge, Refines
 use Rattle.diagram.specs.declared.node.Node.{Node}
 use Rattle.diagram.specs.declared.node.Edge as edges
 use Rattle.diagram.specs.declared.make.State.{State}
-use Rattle.diagram.specs.declared.join.Outcome.{Outcome}
-use Rattle.diagram.specs.declared.join.Outcome.TheVariants as outcome
-
-pub refines_edge : {s s' : List ℕ} {st st' : State} {e : edges.Edge} (f : Step indices) (r : Outcome)
-    → Refines s s' st f r → r ≡ outcome.Edge e st' → RefinesEdge s s' st st' f e
-refines_edge {s} {s'} {st} f r d e = subst (Refines s s' st f) e d
-
-pub refines_full : {s s' : List ℕ} {st : State} (f : Step indices) (r : Outcome) → Refines s s' st f r
-    → r ≡ outcome.Full → RefinesFull s s' st f
-refines_full {s} {s'} {st} f r d e = subst (Refines s s' st f) e d
+use Rattle.diagram.specs.declared.diagram.Full.{Full}
 
 -- lengths, and the node at a number
 
@@ -151,11 +143,12 @@ kept_after s s₁ s₂ st t p g e =
     same_front _ _ h.more g.more (nodes_length s₂ st ∙ sym (nodes_length s st)) (sym h.is ∙ e ∙ g.is)
 
 -- the same step under another name
-pub refines_as : (s s' : List ℕ) (st : State) (f g : Step indices) (r : Outcome) → f (set_of s st) ≡ g (set_of s st)
-    → Refines s s' st g r → Refines s s' st f r
-refines_as s s' st f g (outcome.Edge e t) q d =
+pub refines_as : (s s' : List ℕ) (st st' : State) (f g : Step indices) (r : Result edges.Edge Full)
+    → f (set_of s st) ≡ g (set_of s st)
+    → Refines s s' st st' g r → Refines s s' st st' f r
+refines_as s s' st st' f g (Ok e) q d =
     record { long = d.long; sound = d.sound; epoch = d.epoch; grown = d.grown; valid = d.valid; is = q ∙ d.is }
-refines_as s s' st f g outcome.Full q d = record { long = d.long; kept = d.kept; full = rw q d.full }
+refines_as s s' st st' f g (Err x) q d = record { long = d.long; kept = d.kept; full = rw q d.full }
 
 -- nothing is put in
 pub refines_stays : {s : List ℕ} {st : State} {f : Step indices} {e : edges.Edge} → Sound s st → Valid st.count e
@@ -169,8 +162,8 @@ refines_count {s} {s'} {st} {st'} d = omega (arith, prefix_length d.grown, nodes
 -- F is f, which was done, and then G
 pub refines_then : {s s₁ : List ℕ} {st t : State} {f : Step indices} {e : edges.Edge} → RefinesEdge s s₁ st t f e
     → (F G : Step indices) → F (set_of s st) ≡ G (set_of s₁ t)
-    → (s₂ : List ℕ) (r : Outcome) → Refines s₁ s₂ t G r → Refines s s₂ st F r
-refines_then d F G q s₂ (outcome.Edge e u) h = record {
+    → (s₂ : List ℕ) (u : State) (r : Result edges.Edge Full) → Refines s₁ s₂ t u G r → Refines s s₂ st u F r
+refines_then d F G q s₂ u (Ok e) h = record {
   long = h.long ∙ d.long;
   sound = h.sound;
   epoch = h.epoch ∙ d.epoch;
@@ -178,7 +171,7 @@ refines_then d F G q s₂ (outcome.Edge e u) h = record {
   valid = h.valid;
   is = q ∙ h.is;
 }
-refines_then {s} {s₁} {st} {t} d F G q s₂ outcome.Full h = record {
+refines_then {s} {s₁} {st} {t} d F G q s₂ u (Err x) h = record {
   long = h.long ∙ d.long;
   kept = kept_after s s₁ s₂ st t (refines_count d) d.grown h.kept;
   full = let e : capacity s₁ ≡ capacity s = rw d.long refl in rw q (omega (arith, h.full, e));

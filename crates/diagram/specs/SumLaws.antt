@@ -1,5 +1,5 @@
 -- Laws of sum in the store: what each of its cases gives.
-use Rattle.std.specs.Prelude.{◌≡◌, refl, ◌≢◌, true, false, List, ℕ, suc, length}
+use Rattle.std.specs.Prelude.{◌≡◌, refl, ◌≢◌, true, false, List, ℕ, suc, length, Result, Ok, Err}
 use Rattle.std.proofs.Common.{ap, sym, ◌∙◌, arith, le_refl}
 use Rattle.field.specs.Weight.{to_weight, times_w, inverse_w, Nonzero}
 use Rattle.field.specs.Field.{Represents}
@@ -17,12 +17,12 @@ use Rattle.diagram.specs.Meaning.{edge_in, Valid}
 use Rattle.diagram.specs.CanonicalLaws.{edge_is_zero, edge_nonzero}
 use Rattle.diagram.specs.Store.{nodes_of, set_of, tensor_of, Sound, Refines}
 use Rattle.diagram.specs.StoreLaws.{nodes_length, join_grows}
-use Rattle.diagram.specs.Edge.{IsSum, IsCofactor}
+use Rattle.diagram.specs.Edge.{IsMultiple, IsSum, IsCofactor}
 use Rattle.diagram.specs.EdgeLaws.{edge_sum_valid, edge_sum_tensor, multiple_one, multiple_two, free_below_level}
 use Rattle.diagram.specs.Cache.{KeyFits, op_step, key_step}
-use Rattle.diagram.specs.Operation.{OperationRequires, RefinesCached, lowest_of, MultipleOutcome, high_step}
+use Rattle.diagram.specs.Operation.{OperationRequires, RefinesCached, lowest_of, high_step}
 use Rattle.diagram.specs.Operation.{HighRequires, edges_measure, PartsGrow}
-use Rattle.diagram.specs.OperationLaws.{cached_stays, cached_step, cached_scaled}
+use Rattle.diagram.specs.OperationLaws.{cached_stays, cached_step, cached_scaled, cached_scaled_full}
 use Rattle.diagram.specs.Join.{JoinRequires}
 use Rattle.diagram.specs.OperationHalvesLaws.{measure_same, inside, tops}
 use Rattle.diagram.specs.OperationHalvesLaws.{low_part_full, high_part_ready, high_part_measure, low_part_refines}
@@ -31,8 +31,7 @@ use Rattle.diagram.specs.Sum.{SumReduced}
 use Rattle.diagram.specs.declared.node.Edge.{Edge}
 use Rattle.diagram.specs.declared.make.State.{State}
 use Rattle.diagram.specs.declared.cache.Op.TheVariants as ops
-use Rattle.diagram.specs.declared.join.Outcome.{Outcome}
-use Rattle.diagram.specs.declared.join.Outcome.TheVariants as outcome
+use Rattle.diagram.specs.declared.diagram.Full.{Full}
 
 -- an edge of weight 0 has the tensor zero, and no other has
 
@@ -47,11 +46,11 @@ module _ {s : List ℕ} {st : State} (held : Sound s st) where
 
 module _ {c s : List ℕ} {st : State} {a b : Edge} (g : OperationRequires c s st a b) where
   -- "if A is zero, B. If B is zero, A."
-  pub sum_left : a.weight ≡ 0 → RefinesCached c s s st (sum (tensor_of s st a) (tensor_of s st b)) (outcome.Edge b st)
+  pub sum_left : a.weight ≡ 0 → RefinesCached c s s st st (sum (tensor_of s st a) (tensor_of s st b)) (Ok b)
   sum_left z = cached_stays g g.right (sum_zero_left _ _ _ (zero_tensor g.sound a z))
 
   pub sum_right : a.weight ≢ 0 → b.weight ≡ 0
-      → RefinesCached c s s st (sum (tensor_of s st a) (tensor_of s st b)) (outcome.Edge a st)
+      → RefinesCached c s s st st (sum (tensor_of s st a) (tensor_of s st b)) (Ok a)
   sum_right n z = cached_stays g g.left (sum_zero_right _ _ _ (nonzero_tensor g.sound g.left n)
       (zero_tensor g.sound b z))
 
@@ -77,7 +76,7 @@ module _ {c s : List ℕ} {st : State} {a b : Edge} (g : OperationRequires c s s
 
     -- "If one is a multiple of the other, their sum, nothing put in."
     pub sum_one : {r : Edge} → a.node ≡ b.node → IsSum a b r
-        → RefinesCached c s s st (sum (tensor_of s st a) (tensor_of s st b)) (outcome.Edge r st)
+        → RefinesCached c s s st st (sum (tensor_of s st a) (tensor_of s st b)) (Ok r)
     sum_one e t =
         cached_stays g (edge_sum_valid g.left t)
         (sum_multiple _ _ _ (nonzero_tensor g.sound g.left na) (nonzero_tensor g.sound g.right nb)
@@ -119,11 +118,19 @@ module _ {c s : List ℕ} {st : State} {a b : Edge} (g : OperationRequires c s s
       scaled = rw (ratio.is, inv.is, weight_one, scale_one)
           (sum_ratio (to_weight a.weight) (to_weight b.weight) wn _ _)
 
-      pub sum_times : (c' s' : List ℕ) (m q : Outcome)
-          → RefinesCached c' s s' st (sum (tensor_of s st (record { weight = 1; node = a.node }))
-          (tensor_of s st (record { weight = r; node = b.node }))) m
-          → MultipleOutcome a.weight m q → RefinesCached c' s s' st (sum (tensor_of s st a) (tensor_of s st b)) q
-      sum_times c' s' m q w t = cached_scaled c' s s' st m q g.left.small na scaled w t
+      module _ {c' s' : List ℕ} {t : State} where
+        pub sum_times : {e q : Edge}
+            → RefinesCached c' s s' st t (sum (tensor_of s st (record { weight = 1; node = a.node }))
+            (tensor_of s st (record { weight = r; node = b.node }))) (Ok e)
+            → IsMultiple a.weight e q
+            → RefinesCached c' s s' st t (sum (tensor_of s st a) (tensor_of s st b)) (Ok q)
+        sum_times w x = cached_scaled scaled g.left.small na w x
+
+        pub sum_times_full : {x : Full}
+            → RefinesCached c' s s' st t (sum (tensor_of s st (record { weight = 1; node = a.node }))
+            (tensor_of s st (record { weight = r; node = b.node }))) (Err x)
+            → RefinesCached c' s s' st t (sum (tensor_of s st a) (tensor_of s st b)) (Err x)
+        sum_times_full w = cached_scaled_full scaled w
 
 -- edges to different nodes
 module _ {c s : List ℕ} {st : State} {a b : Edge} (g : OperationRequires c s st a b) (p : SumReduced a b) where
@@ -173,45 +180,49 @@ sum_parts_at {s = s} {st} {a} {b} {k} g m = record {
 -- the low parts
 module _ {c s : List ℕ} {st : State} {a b a0 b0 : Edge} {k : ℕ} (g : OperationRequires c s st a b) (p : SumReduced a b)
     (m : k ≡ lowest_of s st a b)
-    (ca : IsCofactor s st a k false a0) (cb : IsCofactor s st b k false b0) (c₁ s₁ : List ℕ) (r : Outcome)
-    (w : RefinesCached c₁ s s₁ st (sum (tensor_of s st a0) (tensor_of s st b0)) r) where
-  pub sum_low_full : r ≡ outcome.Full
-      → RefinesCached c₁ s s₁ st (sum (tensor_of s st a) (tensor_of s st b)) outcome.Full
-  sum_low_full e = low_part_full g (inside g (sum_some g p) m) m (sum_parts_at g m) (sum_whole g p m) ca cb c₁ s₁ r w e
+    (ca : IsCofactor s st a k false a0) (cb : IsCofactor s st b k false b0) where
+  pub sum_low_full : {c₁ s₁ : List ℕ} {t : State} {x : Full}
+      → RefinesCached c₁ s s₁ st t (sum (tensor_of s st a0) (tensor_of s st b0)) (Err x)
+      → RefinesCached c₁ s s₁ st t (sum (tensor_of s st a) (tensor_of s st b)) (Err x)
+  sum_low_full w = low_part_full g (inside g (sum_some g p) m) m (sum_parts_at g m) (sum_whole g p m) ca cb w
 
-  module _ {l : Edge} {t : State} (e : r ≡ outcome.Edge l t) where
+  module _ {c₁ s₁ : List ℕ} {t : State} {l : Edge}
+      (w : RefinesCached c₁ s s₁ st t (sum (tensor_of s st a0) (tensor_of s st b0)) (Ok l)) where
     pub sum_high_ready : HighRequires c₁ s₁ t a b k k l
     sum_high_ready =
-        high_part_ready g (inside g (sum_some g p) m) m (sum_parts_at g m) (sum_whole g p m) ca cb c₁ s₁ r w e
+        high_part_ready g (inside g (sum_some g p) m) m (sum_parts_at g m) (sum_whole g p m) ca cb w
 
     pub sum_measure : edges_measure s₁ t a b ≡ edges_measure s st a b
     sum_measure =
-        high_part_measure g (inside g (sum_some g p) m) m (sum_parts_at g m) (sum_whole g p m) ca cb c₁ s₁ r w e
+        high_part_measure g (inside g (sum_some g p) m) m (sum_parts_at g m) (sum_whole g p m) ca cb w
 
-    pub sum_low_refines : (c₂ s₂ : List ℕ) (q : Outcome)
-        → RefinesCached c₂ s₁ s₂ t (high_step sum (join k) k (tensor_of s₁ t a) (tensor_of s₁ t b) (tensor_of s₁ t l)) q
-        → RefinesCached c₂ s s₂ st (sum (tensor_of s st a) (tensor_of s st b)) q
-    sum_low_refines c₂ s₂ q h = low_part_refines g (inside g (sum_some g p) m) m (sum_parts_at g m) (sum_whole g p m) ca
-        cb c₁ s₁ r w e c₂ s₂ q h
+    pub sum_low_refines : (c₂ s₂ : List ℕ) (u : State) (q : Result Edge Full)
+        → RefinesCached c₂ s₁ s₂ t u
+        (high_step sum (join k) k (tensor_of s₁ t a) (tensor_of s₁ t b) (tensor_of s₁ t l)) q
+        → RefinesCached c₂ s s₂ st u (sum (tensor_of s st a) (tensor_of s st b)) q
+    sum_low_refines c₂ s₂ u q h =
+        low_part_refines g (inside g (sum_some g p) m) m (sum_parts_at g m) (sum_whole g p m) ca cb w c₂ s₂ u q h
 
 -- the high parts
 module _ {c s : List ℕ} {st : State} {a b a1 b1 l : Edge} {k : ℕ} (w : HighRequires c s st a b k k l)
-    (ca : IsCofactor s st a k true a1) (cb : IsCofactor s st b k true b1) (c₁ s₁ : List ℕ) (r : Outcome)
-    (h : RefinesCached c₁ s s₁ st (sum (tensor_of s st a1) (tensor_of s st b1)) r) where
+    (ca : IsCofactor s st a k true a1) (cb : IsCofactor s st b k true b1) where
   v : PartsGrow (tensor_of s st a) (tensor_of s st b) k k sum (join k)
   v = sum_parts_at w.ready w.lowest
 
-  pub sum_high_full : r ≡ outcome.Full
-      → RefinesCached c₁ s s₁ st (high_step sum (join k) k (tensor_of s st a) (tensor_of s st b) (tensor_of s st l))
-      outcome.Full
-  sum_high_full e = high_part_full w v ca cb c₁ s₁ r h e
+  pub sum_high_full : {c₁ s₁ : List ℕ} {t : State} {x : Full}
+      → RefinesCached c₁ s s₁ st t (sum (tensor_of s st a1) (tensor_of s st b1)) (Err x)
+      → RefinesCached c₁ s s₁ st t
+      (high_step sum (join k) k (tensor_of s st a) (tensor_of s st b) (tensor_of s st l)) (Err x)
+  sum_high_full h = high_part_full w v ca cb h
 
-  module _ {x : Edge} {t : State} (e : r ≡ outcome.Edge x t) where
+  module _ {c₁ s₁ : List ℕ} {t : State} {x : Edge}
+      (h : RefinesCached c₁ s s₁ st t (sum (tensor_of s st a1) (tensor_of s st b1)) (Ok x)) where
     pub sum_joinable : Sound s₁ t × JoinRequires s₁ t k l x
-    sum_joinable = ((high_ready w v ca cb c₁ s₁ r h e).sound, high_joinable w v ca cb c₁ s₁ r h e)
+    sum_joinable = ((high_ready w v ca cb h).sound, high_joinable w v ca cb h)
 
-    pub sum_high_refines : (s₂ : List ℕ) (q : Outcome)
-        → Refines s₁ s₂ t (join k (tensor_of s₁ t l) (tensor_of s₁ t x)) q
-        → RefinesCached c₁ s s₂ st (high_step sum (join k) k (tensor_of s st a) (tensor_of s st b) (tensor_of s st l)) q
-    sum_high_refines s₂ q d =
-        high_part_refines w v ca cb c₁ s₁ r h e c₁ s₂ q (cached_step s₂ _ q (high_ready w v ca cb c₁ s₁ r h e) d)
+    pub sum_high_refines : (c₂ s₂ : List ℕ) (u : State) (q : Result Edge Full) → c₂ ≡ c₁
+        → Refines s₁ s₂ t u (join k (tensor_of s₁ t l) (tensor_of s₁ t x)) q
+        → RefinesCached c₂ s s₂ st u
+        (high_step sum (join k) k (tensor_of s st a) (tensor_of s st b) (tensor_of s st l)) q
+    sum_high_refines c₂ s₂ u q e d =
+        high_part_refines w v ca cb h c₂ s₂ u q (cached_step s₂ u _ q (high_ready w v ca cb h) e d)

@@ -1,5 +1,5 @@
 -- Laws of `unit`: qubit by qubit from the last to the first, as a tensor and in a store.
-use Rattle.std.specs.Prelude.{◌≡◌, refl, Bool, true, false, cond, ◌&&◌, ◌≢◌, List}
+use Rattle.std.specs.Prelude.{◌≡◌, refl, Bool, true, false, cond, ◌&&◌, ◌≢◌, List, Result, Ok, Err}
 use Rattle.std.proofs.Common.{ap, ap₂, sym, ◌∙◌, subst}
 use Rattle.std.proofs.Math.Bool.{and_assoc}
 use Prim.Native.Nat.{ℕ, zero, suc, ◌+◌, ◌*◌, ◌≤◌, ◌<◌, ◌-◌}
@@ -21,7 +21,7 @@ use Rattle.diagram.specs.TallyBuildLaws.{build_writes}
 use Rattle.diagram.specs.TallyPartsLaws.{build_weight, build_joined}
 use Rattle.diagram.specs.MeaningLaws.{valid_more}
 use Rattle.diagram.specs.Store.{set_of, tensor_of, Sound, RefinesEdge, RefinesFull, Refines}
-use Rattle.diagram.specs.StoreLaws.{refines_as, refines_edge, refines_full, sets_prefix, tensor_kept}
+use Rattle.diagram.specs.StoreLaws.{refines_as, sets_prefix, tensor_kept}
 use Rattle.diagram.specs.StoreLaws.{refines_count, refines_then, refines_full_more}
 use Rattle.diagram.specs.Join.{JoinRequires}
 use Rattle.diagram.specs.BuildLaws.{constant_valid, constant_tensor, built_constant, built_tensor, built_set}
@@ -29,8 +29,7 @@ use Rattle.diagram.specs.BuildLaws.{build_whole, build_front, build_low_full, bu
 use Rattle.diagram.specs.Build.{JoinRemains}
 use Rattle.diagram.specs.declared.node.Edge.{Edge}
 use Rattle.diagram.specs.declared.make.State.{State}
-use Rattle.diagram.specs.declared.join.Outcome.{Outcome}
-use Rattle.diagram.specs.declared.join.Outcome.TheVariants as outcome
+use Rattle.diagram.specs.declared.diagram.Full.{Full}
 
 -- it is document 01's tensor
 
@@ -152,15 +151,13 @@ module _ (s : List ℕ) (st : State) (q : ℕ) (e : Edge) (o : OntoRequires s st
   }
 
   -- the first join builds the low part
-  module _ (s₁ : List ℕ) (r : Outcome)
-      (does : Refines s s₁ st (join (middle q) (tensor_of s st e) (tensor_of s st none)) r) where
-    first_build : Refines s s₁ st (build A) r
-    first_build =
-        refines_as s s₁ st (build A) _ r
-        (build_joined (middle q) U (constant indices 0w) (set_of s st) (rw indices_count inside) o.above
+  module _ where
+    first_same : build A (set_of s st) ≡ join (middle q) (tensor_of s st e) (tensor_of s st none) (set_of s st)
+    first_same =
+        build_joined (middle q) U (constant indices 0w) (set_of s st) (rw indices_count inside) o.above
         (free_below_constant (suc (middle q)) indices 0w) _ _
         o.built (build_weight 0w (set_of s st)) ∙ ap (λ Z. join (middle q) U Z (set_of s st))
-        (sym (none_tensor o.sound))) does
+        (sym (none_tensor o.sound))
 
     low : FreeBelow (suc (input q)) A
     low = onto_low q U o.above
@@ -168,13 +165,16 @@ module _ (s : List ℕ) (st : State) (q : ℕ) (e : Edge) (o : OntoRequires s st
     high : FreeBelow (suc (input q)) B
     high = onto_high q U o.above
 
-    pub first_full : r ≡ outcome.Full → RefinesFull s s₁ st (build (onto q (tensor_of s st e)))
+    pub first_full : {s₁ : List ℕ} → RefinesFull s s₁ st (join (middle q) (tensor_of s st e) (tensor_of s st none))
+        → RefinesFull s s₁ st (build (onto q (tensor_of s st e)))
     unfolding onto
-    first_full z = build_low_full (input q) A B (omega (arith, inside)) low high (refines_full _ r first_build z)
+    first_full {s₁} f = build_low_full (input q) A B (omega (arith, inside)) low high
+        (refines_as s s₁ st st (build A) _ (Err (record {})) first_same f)
 
-    module _ {t : State} {a : Edge} (some : r ≡ outcome.Edge a t) where
+    module _ {s₁ : List ℕ} {t : State} {a : Edge}
+        (first : RefinesEdge s s₁ st t (join (middle q) (tensor_of s st e) (tensor_of s st none)) a) where
       d : RefinesEdge s s₁ st t (build A) a
-      d = refines_edge _ r first_build some
+      d = refines_as s s₁ st t (build A) _ (Ok a) first_same first
 
       kept : tensor_of s₁ t e ≡ U
       kept = tensor_kept s s₁ st t d.grown o.valid
@@ -193,28 +193,30 @@ module _ (s : List ℕ) (st : State) (q : ℕ) (e : Edge) (o : OntoRequires s st
           }
 
       -- the second builds the high part
-      module _ (s₂ : List ℕ) (r' : Outcome)
-          (does' : Refines s₁ s₂ t (join (middle q) (tensor_of s₁ t none) (tensor_of s₁ t e)) r') where
-        second_build : Refines s₁ s₂ t (build B) r'
-        second_build =
+      module _ where
+        second_same : build B (set_of s₁ t)
+            ≡ join (middle q) (tensor_of s₁ t none) (tensor_of s₁ t e) (set_of s₁ t)
+        second_same =
             let again : build U (set_of s₁ t) ≡ (U, set_of s₁ t) =
             writes_stable (build_writes U) (set_of s st) (set_of s₁ t) (sets_prefix s s₁ st t d.grown)
             (ap (λ p. p.1) o.built) in
-            refines_as s₁ s₂ t (build B) _ r'
-            (build_joined (middle q) (constant indices 0w) U (set_of s₁ t) (rw indices_count inside)
+            build_joined (middle q) (constant indices 0w) U (set_of s₁ t) (rw indices_count inside)
             (free_below_constant (suc (middle q)) indices 0w) o.above _ _
             (build_weight 0w (set_of s₁ t)) again ∙ ap₂ (λ Z X. join (middle q) Z X (set_of s₁ t))
-            (sym (none_tensor d.sound)) (sym kept)) does'
+            (sym (none_tensor d.sound)) (sym kept)
 
-        pub second_full : r' ≡ outcome.Full → RefinesFull s s₂ st (build (onto q (tensor_of s st e)))
+        pub second_full : {s₂ : List ℕ} → RefinesFull s₁ s₂ t (join (middle q) (tensor_of s₁ t none) (tensor_of s₁ t e))
+            → RefinesFull s s₂ st (build (onto q (tensor_of s st e)))
         unfolding onto
-        second_full z =
-            build_high_full (input q) A B (omega (arith, inside)) low high d (refines_full _ r' second_build z)
+        second_full {s₂} f =
+            build_high_full (input q) A B (omega (arith, inside)) low high d
+            (refines_as s₁ s₂ t t (build B) _ (Err (record {})) second_same f)
 
         -- the third joins them
-        module _ {u : State} {b : Edge} (some' : r' ≡ outcome.Edge b u) where
+        module _ {s₂ : List ℕ} {u : State} {b : Edge}
+            (second : RefinesEdge s₁ s₂ t u (join (middle q) (tensor_of s₁ t none) (tensor_of s₁ t e)) b) where
           d' : RefinesEdge s₁ s₂ t u (build B) b
-          d' = refines_edge _ r' second_build some'
+          d' = refines_as s₁ s₂ t u (build B) _ (Ok b) second_same second
 
           pub onto_joins : JoinRemains s s₂ st u (input q) a b (build (onto q (tensor_of s st e)))
           unfolding onto
@@ -262,16 +264,14 @@ module _ (q n : ℕ) (less : q ≢ n) (within : q ≤ n) (most : n ≤ 8) where
   front : (z : Set indices) → build X z ≡ build X (build W z).1
   front z = rw split (onto_front q W inside' after_q z)
 
-  module _ (s s₁ : List ℕ) (st : State) (r : Outcome)
-      (does : Refines s s₁ st (build (unit_from (q + 1) (n - (q + 1)))) r) where
-    pub unit_full : r ≡ outcome.Full → RefinesFull s s₁ st (build (unit_from q (n - q)))
-    unit_full e = refines_full_more (refines_full _ r does e) (build X)
+  module _ {s s₁ : List ℕ} {st : State} where
+    pub unit_full : RefinesFull s s₁ st (build (unit_from (q + 1) (n - (q + 1))))
+        → RefinesFull s s₁ st (build (unit_from q (n - q)))
+    unit_full f = refines_full_more f (build X)
         (rw (front (set_of s st)) (writes_grows (build_writes X) (build W (set_of s st)).1))
 
-    module _ {t : State} {e : Edge} (some : r ≡ outcome.Edge e t) where
-      done : RefinesEdge s s₁ st t (build W) e
-      done = refines_edge _ r does some
-
+    module _ {t : State} {e : Edge}
+        (done : RefinesEdge s s₁ st t (build (unit_from (q + 1) (n - (q + 1)))) e) where
       is : tensor_of s₁ t e ≡ W
       is = built_tensor W done
 
@@ -285,15 +285,16 @@ module _ (q n : ℕ) (less : q ≢ n) (within : q ≤ n) (most : n ≤ 8) where
             built = rw (is, ← built_set W done) (writes_again (build_writes W) (set_of s st));
           }
 
-      pub unit_refines : (s₂ : List ℕ) (p : Outcome) → Refines s₁ s₂ t (build (onto q (tensor_of s₁ t e))) p
-          → Refines s s₂ st (build (unit_from q (n - q))) p
-      unit_refines s₂ p j =
+      pub unit_refines : (s₂ : List ℕ) (u : State) (p : Result Edge Full)
+          → Refines s₁ s₂ t u (build (onto q (tensor_of s₁ t e))) p
+          → Refines s s₂ st u (build (unit_from q (n - q))) p
+      unit_refines s₂ u p j =
           refines_then done (build X) (build (onto q (tensor_of s₁ t e)))
-          (front (set_of s st) ∙ rw (built_set W done, is, split) refl) s₂ p j
+          (front (set_of s st) ∙ rw (built_set W done, is, split) refl) s₂ u p j
 
-pub unit_whole : (s s' : List ℕ) (st : State) (n : ℕ) (r : Outcome) → n ≤ 8
-    → Refines s s' st (build (unit_from 0 (n - 0))) r
-    → Refines s s' st (build (unit_tensor indices n)) r
-unit_whole s s' st n r p d =
+pub unit_whole : (s s' : List ℕ) (st t : State) (n : ℕ) (r : Result Edge Full) → n ≤ 8
+    → Refines s s' st t (build (unit_from 0 (n - 0))) r
+    → Refines s s' st t (build (unit_tensor indices n)) r
+unit_whole s s' st t n r p d =
     let e : n - 0 ≡ n = omega arith in
-    subst (λ T. Refines s s' st (build T) r) (unit_from_lem indices n (rw indices_count (omega arith))) (rw e at d)
+    subst (λ T. Refines s s' st t (build T) r) (unit_from_lem indices n (rw indices_count (omega arith))) (rw e at d)

@@ -6,7 +6,7 @@ use Rattle.diagram.specs.Store.{tensor_of}
 use Rattle.diagram.specs.declared.node.Edge.{Edge}
 use Rattle.diagram.specs.declared.make.State.{State}
 
--- the walk from a has come to the weight w at node n, with the same value
-pub record ValueLoop (s : List ℕ) (st : State) (a : Edge) (v w n : ℕ) : Type 0 where
-  pub valid : Valid st.count (record { weight = w; node = n })
-  pub is : value (tensor_of s st (record { weight = w; node = n })) v ≡ value (tensor_of s st a) v
+-- the walk from a has come to e, with the same value
+pub record ValueLoop (s : List ℕ) (st : State) (a : Edge) (v : ℕ) (e : Edge) : Type 0 where
+  pub valid : Valid st.count e
+  pub is : value (tensor_of s st e) v ≡ value (tensor_of s st a) v

@@ -3,15 +3,14 @@ ghost use Rattle.std.specs.Prelude.{◌≡◌, ◌≢◌, ◌+◌, ◌^◌, ◌�
 ghost use Rattle.diagram.specs.Tensor.{indices, index_count};
 ghost use Rattle.diagram.specs.Tally.{build};
 ghost use Rattle.diagram.specs.Gate.{gate_tensor};
-ghost use Rattle.diagram.specs.Store.{Sound, Refines};
 ghost use Rattle.diagram.specs.Entry.{QubitsInRange};
 ghost use Rattle.diagram.specs.Build.{NoneOwned, NoneUsed, gate_part, BitsBelow};
+ghost use Rattle.diagram.specs.Diagram.{IsSound, KeepsCache, Does};
 
+use crate::diagram::{Diagram, Full};
 use crate::gate::{Gate, Qubit};
-use crate::join::Outcome;
-use crate::make::State;
 use crate::node::{Assignment, Edge, INDICES, Index};
-use crate::{entry, gate, join};
+use crate::{entry, gate};
 
 // v with bit k set.
 fn with_bit(v: Assignment, k: Index) -> Assignment
@@ -55,31 +54,31 @@ fn next_used(g: Gate, k: Index) -> Index
     }
 }
 
-// The gate's tensor with its indices below k fixed as the bits of v: low before high. The indices that the gate does
-// not use are passed over.
-fn part(store: &mut [u8], s: State, g: Gate, k: Index, v: Assignment) -> Outcome
-    requires { Sound store.old s × (QubitsInRange g × BitsBelow k v) }
-    ensures { Refines store.old store.new s (build (gate_part g k v)) result }
-{
-    if k == INDICES {
-        let weight = entry::entry(g, v);
-        return Outcome::Edge(Edge { weight, node: 0 }, s);
+impl<'a> Diagram<'a> {
+    // The gate's tensor with its indices below k fixed as the bits of v: low before high. The indices that the gate
+    // does not use are passed over.
+    fn part(&mut self, g: Gate, k: Index, v: Assignment) -> Result<Edge, Full>
+        requires { IsSound self.old × (QubitsInRange g × BitsBelow k v) }
+        ensures cache { KeepsCache self.old self.new }
+        ensures does { Does self.old self.new (build (gate_part g k v)) result }
+    {
+        if k == INDICES {
+            let weight = entry::entry(g, v);
+            return Ok(Edge { weight, node: 0 });
+        }
+        let n = next_used(g, k + 1);
+        let l = self.part(g, n, v)?;
+        let w = with_bit(v, k);
+        let h = self.part(g, n, w)?;
+        self.join(k, l, h)
     }
-    let n = next_used(g, k + 1);
-    let Outcome::Edge(l, t) = part(store, s, g, n, v) else {
-        return Outcome::Full;
-    };
-    let w = with_bit(v, k);
-    let Outcome::Edge(h, u) = part(store, t, g, n, w) else {
-        return Outcome::Full;
-    };
-    join::join(store, u, k, l, h)
-}
 
-pub fn gate(store: &mut [u8], s: State, g: Gate) -> Outcome
-    requires { Sound store.old s × QubitsInRange g }
-    ensures { Refines store.old store.new s (build (gate_tensor indices g)) result }
-{
-    let k = next_used(g, 0);
-    part(store, s, g, k, 0)
+    pub fn gate(&mut self, g: Gate) -> Result<Edge, Full>
+        requires { IsSound self.old × QubitsInRange g }
+        ensures cache { KeepsCache self.old self.new }
+        ensures does { Does self.old self.new (build (gate_tensor indices g)) result }
+    {
+        let k = next_used(g, 0);
+        self.part(g, k, 0)
+    }
 }

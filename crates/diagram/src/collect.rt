@@ -5,22 +5,18 @@ ghost use Rattle.diagram.specs.Node.{node_at};
 ghost use Rattle.diagram.specs.Mark.{ChildrenBefore};
 ghost use Rattle.diagram.specs.Registers.{RegistersValid};
 ghost use Rattle.diagram.specs.Collect.{SweepEnsures, CollectRequires, CollectEnsures};
+ghost use Rattle.diagram.specs.Diagram.{KeepsLoans};
 
+use crate::diagram::Diagram;
 use crate::make::{BucketCount, State};
 use crate::node::NodeCount;
 use crate::registers::Registers;
-use crate::{compact, mark, restore};
+use crate::{compact, mark};
 
 #[derive(Clone, Copy)]
 struct SweepResult {
     count: NodeCount,
     registers: Registers,
-}
-
-#[derive(Clone, Copy)]
-pub struct CollectResult {
-    pub state: State,
-    pub registers: Registers,
 }
 
 // Moves the reached nodes down; the answer is how many they are, and the registers with their nodes' new numbers.
@@ -51,24 +47,27 @@ fn fewer(count: NodeCount, buckets: BucketCount) -> BucketCount
     b
 }
 
-pub fn collect(store: &mut [u8], cache: &mut [u64], s: State, registers: Registers) -> CollectResult
-    requires { CollectRequires cache.old store.old s registers.all }
-    ensures { CollectEnsures cache.new store.old store.new s result.state
-        registers.all result.registers.all }
-{
-    let swept = sweep(store, s.count, registers);
-    let count = swept.count;
-    let registers = swept.registers;
-    let buckets = fewer(count, s.buckets);
-    let epoch = s.epoch;
-    let state = restore::rollback(
-        store,
-        cache,
-        State {
+impl<'a> Diagram<'a> {
+    // What the registers do not reach goes; the answer is the registers with their nodes' new numbers.
+    pub fn collect(&mut self, registers: Registers) -> Registers
+        requires { CollectRequires self.old.cache.now self.old.store.now self.old.state registers.all }
+        ensures loans { KeepsLoans self.old self.new }
+        ensures collects { CollectEnsures self.new.cache.now self.old.store.now self.new.store.now self.old.state
+            self.new.state registers.all result.all }
+    {
+        let State {
+            count,
+            epoch,
+            buckets,
+        } = self.state;
+        let swept = sweep(self.store, count, registers);
+        let count = swept.count;
+        let buckets = fewer(count, buckets);
+        self.rollback(State {
             count,
             buckets,
             epoch,
-        },
-    );
-    CollectResult { state, registers }
+        });
+        swept.registers
+    }
 }

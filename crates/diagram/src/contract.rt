@@ -3,16 +3,14 @@ ghost use Rattle.std.specs.Prelude.{◌≤◌, ◌<◌};
 ghost use Rattle.field.specs.Weight.{modulus};
 ghost use Rattle.diagram.specs.Tensor.{bits, masks, index_count};
 ghost use Rattle.diagram.specs.Tally.{cont};
-ghost use Rattle.diagram.specs.Store.{tensor_of};
-ghost use Rattle.diagram.specs.Join.{JoinRequires};
-ghost use Rattle.diagram.specs.Operation.{OperationRequires, RefinesCached, HighRequires, high_step};
+ghost use Rattle.diagram.specs.Operation.{high_step};
 ghost use Rattle.diagram.specs.Contract.{ContractReduced, FactoredEnsures, cont_without, combine};
+ghost use Rattle.diagram.specs.Diagram.{tensor, Ready, HighReady, Joinable, KeepsLoans, DoesCached};
 
 use crate::cache::{Key, LookupResult, Op};
-use crate::join::Outcome;
-use crate::make::State;
+use crate::diagram::{Diagram, Full};
 use crate::node::{Edge, Index, Mask, Weight};
-use crate::{cache, edge, join, mask, operation, sum};
+use crate::{cache, edge, mask};
 
 // The weights, times 2 for each member of m below k.
 fn factored(v: Weight, w: Weight, m: Mask, k: Index) -> Weight
@@ -24,142 +22,105 @@ fn factored(v: Weight, w: Weight, m: Mask, k: Index) -> Weight
     field::mul(p, u)
 }
 
-#[cycle(contract)]
-pub fn contract(store: &mut [u8], cache: &mut [u64], s: State, a: Edge, b: Edge, m: Mask) -> Outcome
-    requires { OperationRequires cache.old store.old s a b × (m < masks) }
-    ensures { RefinesCached cache.new store.old store.new s
-        (cont (tensor_of store.old s a) (tensor_of store.old s b) (bits m)) result }
-{
-    let v = a.weight;
-    let w = b.weight;
-    let zero = Edge { weight: 0, node: 0 };
-    if v == 0 {
-        return Outcome::Edge(zero, s);
-    }
-    if w == 0 {
-        return Outcome::Edge(zero, s);
-    }
-    // weights and members of S below both tops are taken out: multiples share an entry
-    let k = operation::lowest(store, s, a, b);
-    let weight = factored(v, w, m, k);
-    let rest = mask::from(m, k);
-    let x = a.node;
-    let y = b.node;
-    // a constant, and no index left in S: a multiple of the other, nothing is put in
-    if rest == 0 {
-        if y == 0 {
-            let e = Edge { weight, node: x };
-            return Outcome::Edge(e, s);
+impl<'a> Diagram<'a> {
+    #[cycle(contract)]
+    pub fn contract(&mut self, a: Edge, b: Edge, m: Mask) -> Result<Edge, Full>
+        requires { Ready self.old a b × (m < masks) }
+        ensures loans { KeepsLoans self.old self.new }
+        ensures does { DoesCached self.old self.new (cont (tensor self.old a) (tensor self.old b) (bits m)) result }
+    {
+        let v = a.weight;
+        let w = b.weight;
+        let zero = Edge { weight: 0, node: 0 };
+        if v == 0 {
+            return Ok(zero);
         }
-        if x == 0 {
-            let e = Edge { weight, node: y };
-            return Outcome::Edge(e, s);
+        if w == 0 {
+            return Ok(zero);
         }
+        // weights and members of S below both tops are taken out: multiples share an entry
+        let k = self.lowest(a, b);
+        let weight = factored(v, w, m, k);
+        let rest = mask::from(m, k);
+        let x = a.node;
+        let y = b.node;
+        // a constant, and no index left in S: a multiple of the other, nothing is put in
+        if rest == 0 {
+            if y == 0 {
+                return Ok(Edge { weight, node: x });
+            }
+            if x == 0 {
+                return Ok(Edge { weight, node: y });
+            }
+        }
+        let reduced = Edge { weight: 1, node: x };
+        let other = Edge { weight: 1, node: y };
+        let e = self.contract_cached(reduced, other, rest)?;
+        Ok(edge::times(weight, e))
     }
-    let reduced = Edge { weight: 1, node: x };
-    let other = Edge { weight: 1, node: y };
-    let outcome = contract_cached(store, cache, s, reduced, other, rest);
-    operation::times(weight, outcome)
-}
 
-// The contraction of edges of weight 1, not both constant: remembered, or worked out and remembered.
-#[cycle(contract)]
-fn contract_cached(
-    store: &mut [u8],
-    cache: &mut [u64],
-    s: State,
-    a: Edge,
-    b: Edge,
-    m: Mask,
-) -> Outcome
-    requires { OperationRequires cache.old store.old s a b × ContractReduced a b m }
-    ensures { RefinesCached cache.new store.old store.new s
-        (cont (tensor_of store.old s a) (tensor_of store.old s b) (bits m)) result }
-{
-    let epoch = s.epoch;
-    let left = a.node;
-    let right = b.node;
-    let op = Op::Contract;
-    let key = Key {
-        op,
-        left,
-        right,
-        arg: m,
-    };
-    if let LookupResult::Hit(e) = cache::lookup(cache, epoch, key) {
-        return Outcome::Edge(e, s);
+    // The contraction of edges of weight 1, not both constant: remembered, or worked out and remembered.
+    #[cycle(contract)]
+    fn contract_cached(&mut self, a: Edge, b: Edge, m: Mask) -> Result<Edge, Full>
+        requires { Ready self.old a b × ContractReduced a b m }
+        ensures loans { KeepsLoans self.old self.new }
+        ensures does { DoesCached self.old self.new (cont (tensor self.old a) (tensor self.old b) (bits m)) result }
+    {
+        let key = Key {
+            op: Op::Contract,
+            left: a.node,
+            right: b.node,
+            arg: m,
+        };
+        if let LookupResult::Hit(e) = self.recall(key) {
+            return Ok(e);
+        }
+        let e = self.contract_split(a, b, m)?;
+        let epoch = self.state.epoch;
+        cache::remember(self.cache, epoch, key, e);
+        Ok(e)
     }
-    let outcome = contract_split(store, cache, s, a, b, m);
-    operation::keep(cache, epoch, key, outcome);
-    outcome
-}
 
-// "L = cont(A0,B0,S')", and then the rest.
-#[cycle(contract)]
-fn contract_split(
-    store: &mut [u8],
-    cache: &mut [u64],
-    s: State,
-    a: Edge,
-    b: Edge,
-    m: Mask,
-) -> Outcome
-    requires { OperationRequires cache.old store.old s a b × ContractReduced a b m }
-    ensures { RefinesCached cache.new store.old store.new s
-        (cont (tensor_of store.old s a) (tensor_of store.old s b) (bits m)) result }
-{
-    let k = operation::lowest(store, s, a, b);
-    let rest = mask::without(m, k);
-    let a0 = edge::cofactor(store, s, a, k, false);
-    let b0 = edge::cofactor(store, s, b, k, false);
-    let Outcome::Edge(l, t) = contract(store, cache, s, a0, b0, rest) else {
-        return Outcome::Full;
-    };
-    contract_high(store, cache, t, a, b, m, k, l)
-}
-
-// "H = cont(A1,B1,S')", met with l, which is L.
-#[cycle(contract)]
-fn contract_high(
-    store: &mut [u8],
-    cache: &mut [u64],
-    s: State,
-    a: Edge,
-    b: Edge,
-    m: Mask,
-    k: Index,
-    l: Edge,
-) -> Outcome
-    requires { HighRequires cache.old store.old s a b k k l × (m < masks) }
-    ensures { RefinesCached cache.new store.old store.new s
-        (high_step (cont_without k m) (combine k m) k (tensor_of store.old s a)
-        (tensor_of store.old s b) (tensor_of store.old s l)) result }
-{
-    let rest = mask::without(m, k);
-    let a1 = edge::cofactor(store, s, a, k, true);
-    let b1 = edge::cofactor(store, s, b, k, true);
-    let Outcome::Edge(h, t) = contract(store, cache, s, a1, b1, rest) else {
-        return Outcome::Full;
-    };
-    combine(store, cache, t, m, k, l, h)
-}
-
-// "the answer is sum(L,H) if k is in S, else join(k,L,H)"
-fn combine(
-    store: &mut [u8],
-    cache: &mut [u64],
-    s: State,
-    m: Mask,
-    k: Index,
-    l: Edge,
-    h: Edge,
-) -> Outcome
-    requires { OperationRequires cache.old store.old s l h × JoinRequires store.old s k l h }
-    ensures { RefinesCached cache.new store.old store.new s
-        (combine k m (tensor_of store.old s l) (tensor_of store.old s h)) result }
-{
-    if mask::has(m, k) {
-        return sum::sum(store, cache, s, l, h);
+    // "L = cont(A0,B0,S')", and then the rest.
+    #[cycle(contract)]
+    fn contract_split(&mut self, a: Edge, b: Edge, m: Mask) -> Result<Edge, Full>
+        requires { Ready self.old a b × ContractReduced a b m }
+        ensures loans { KeepsLoans self.old self.new }
+        ensures does { DoesCached self.old self.new (cont (tensor self.old a) (tensor self.old b) (bits m)) result }
+    {
+        let k = self.lowest(a, b);
+        let rest = mask::without(m, k);
+        let a0 = self.cofactor(a, k, false);
+        let b0 = self.cofactor(b, k, false);
+        let l = self.contract(a0, b0, rest)?;
+        self.contract_high(a, b, m, k, l)
     }
-    join::join(store, s, k, l, h)
+
+    // "H = cont(A1,B1,S')", met with l, which is L.
+    #[cycle(contract)]
+    fn contract_high(&mut self, a: Edge, b: Edge, m: Mask, k: Index, l: Edge) -> Result<Edge, Full>
+        requires { HighReady self.old a b k k l × (m < masks) }
+        ensures loans { KeepsLoans self.old self.new }
+        ensures does { DoesCached self.old self.new
+            (high_step (cont_without k m) (combine k m) k (tensor self.old a) (tensor self.old b) (tensor self.old l))
+            result }
+    {
+        let rest = mask::without(m, k);
+        let a1 = self.cofactor(a, k, true);
+        let b1 = self.cofactor(b, k, true);
+        let h = self.contract(a1, b1, rest)?;
+        self.combine(m, k, l, h)
+    }
+
+    // "the answer is sum(L,H) if k is in S, else join(k,L,H)"
+    fn combine(&mut self, m: Mask, k: Index, l: Edge, h: Edge) -> Result<Edge, Full>
+        requires { Ready self.old l h × Joinable self.old k l h }
+        ensures loans { KeepsLoans self.old self.new }
+        ensures does { DoesCached self.old self.new (combine k m (tensor self.old l) (tensor self.old h)) result }
+    {
+        if mask::has(m, k) {
+            return self.sum(l, h);
+        }
+        self.join(k, l, h)
+    }
 }

@@ -2,47 +2,39 @@
 ghost use Rattle.std.specs.Prelude.{◌<◌};
 ghost use Rattle.diagram.specs.Tensor.{index_count};
 ghost use Rattle.diagram.specs.Tally.{join as joins};
-ghost use Rattle.diagram.specs.Meaning.{Valid};
-ghost use Rattle.diagram.specs.Store.{tensor_of, Sound, Refines};
-ghost use Rattle.diagram.specs.Join.{NodeMaskEnsures, JoinRequires};
+ghost use Rattle.diagram.specs.Diagram.{IsSound, IsEdge, tensor, MaskOfJoin, Joinable, KeepsCache, Does};
 
-use crate::make::{Slot, State};
+use crate::diagram::{Diagram, Full};
 use crate::node::{Edge, Index, Mask};
-use crate::{make, mask, node, normalise, support};
+use crate::{mask, node, normalise};
 
-// An edge to the result, and the state then; or the nodes would be more than the store holds.
-#[derive(Clone, Copy)]
-pub enum Outcome {
-    Edge(Edge, State),
-    Full,
-}
-
-// The mask of a node at k whose parts are l and h: k, and what they depend on.
-fn node_mask(store: &[u8], s: State, k: Index, l: Edge, h: Edge) -> Mask
-    requires { Sound store.now s × ((k < index_count) × (Valid s.count l × Valid s.count h)) }
-    ensures { NodeMaskEnsures store.now s k l h result }
-{
-    let low = support::support(store, s, l);
-    let high = support::support(store, s, h);
-    let own = mask::power(k);
-    own | (low | high)
-}
-
-// The tensor that is l at 0 and h at 1 of the index k.
-pub fn join(store: &mut [u8], s: State, k: Index, l: Edge, h: Edge) -> Outcome
-    requires { Sound store.old s × JoinRequires store.old s k l h }
-    ensures { Refines store.old store.new s
-        (joins k (tensor_of store.old s l) (tensor_of store.old s h)) result }
-{
-    if node::same_edge(l, h) {
-        return Outcome::Edge(l, s);
+impl<'a> Diagram<'a> {
+    // The mask of a node at k whose parts are l and h: k, and what they depend on.
+    fn node_mask(&self, k: Index, l: Edge, h: Edge) -> Mask
+        requires { IsSound self.now × ((k < index_count) × (IsEdge self.now l × IsEdge self.now h)) }
+        ensures { MaskOfJoin self.now k l h result }
+    {
+        let low = self.support(l);
+        let high = self.support(h);
+        let own = mask::power(k);
+        own | (low | high)
     }
-    let mask = node_mask(store, s, k, l, h);
-    let x = normalise::normalise(k, l, h, mask);
-    let weight = x.weight;
-    let node = x.node;
-    let Slot::At(n, t) = make::make(store, s, node) else {
-        return Outcome::Full;
-    };
-    Outcome::Edge(Edge { weight, node: n }, t)
+
+    // The tensor that is l at 0 and h at 1 of the index k.
+    pub fn join(&mut self, k: Index, l: Edge, h: Edge) -> Result<Edge, Full>
+        requires { IsSound self.old × Joinable self.old k l h }
+        ensures cache { KeepsCache self.old self.new }
+        ensures does { Does self.old self.new (joins k (tensor self.old l) (tensor self.old h)) result }
+    {
+        if node::same_edge(l, h) {
+            return Ok(l);
+        }
+        let mask = self.node_mask(k, l, h);
+        let x = normalise::normalise(k, l, h, mask);
+        let node = self.make(x.node)?;
+        Ok(Edge {
+            weight: x.weight,
+            node,
+        })
+    }
 }

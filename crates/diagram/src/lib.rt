@@ -7,6 +7,7 @@ pub mod collect;
 mod compact;
 pub mod compare;
 pub mod contract;
+pub mod diagram;
 mod edge;
 mod entry;
 mod fields;

@@ -1,8 +1,9 @@
 // Making a node: it is found in the unique table, or it becomes one more node.
 ghost use Rattle.diagram.specs.Node.{NodeFits};
-ghost use Rattle.diagram.specs.Make.{StateSound, MakeEnsures};
+ghost use Rattle.diagram.specs.Diagram.{TableOf, Makes, KeepsCache};
 
 use crate::cache::Epoch;
+use crate::diagram::{Diagram, Full};
 use crate::node::{Node, NodeCount, NodeNumber};
 use crate::{insert, node, table};
 
@@ -10,45 +11,39 @@ use crate::{insert, node, table};
 pub type BucketCount = usize;
 
 // What goes with the store: its nodes and buckets, and the epoch of the results that are remembered.
-#[derive(Clone, Copy)]
+#[derive(Clone, Copy, Drop)]
 pub struct State {
     pub count: NodeCount,
     pub epoch: Epoch,
     pub buckets: BucketCount,
 }
 
-// The node's number, and the state then; or there is no room for it.
-#[derive(Clone, Copy)]
-pub enum Slot {
-    At(NodeNumber, State),
-    Full,
-}
-
-pub(crate) fn make(s: &mut [u8], state: State, x: Node) -> Slot
-    requires { StateSound s.old state × NodeFits x }
-    ensures { MakeEnsures s.old s.new state x result }
-{
-    let room = node::capacity(s);
-    if room == 0 {
-        return Slot::Full;
+impl<'a> Diagram<'a> {
+    // The number of the node x.
+    pub(crate) fn make(&mut self, x: Node) -> Result<NodeNumber, Full>
+        requires { TableOf self.old × NodeFits x }
+        ensures cache { KeepsCache self.old self.new }
+        ensures makes { Makes self.old self.new x result }
+    {
+        let count = self.state.count;
+        let buckets = self.state.buckets;
+        let store = &mut *self.store;
+        let room = node::capacity(store);
+        if room == 0 {
+            return Err(Full);
+        }
+        let r = table::find(store, count, buckets, x);
+        if r != 0 {
+            return Ok(r);
+        }
+        if room <= count {
+            return Err(Full);
+        }
+        insert::append(store, count, buckets, x);
+        let n = count + 1;
+        let more = insert::grow_table(store, n, buckets);
+        self.state.buckets = more;
+        self.state.count = n;
+        Ok(n)
     }
-    let count = state.count;
-    let buckets = state.buckets;
-    let r = table::find(s, count, buckets, x);
-    if r != 0 {
-        return Slot::At(r, state);
-    }
-    if room <= count {
-        return Slot::Full;
-    }
-    insert::append(s, count, buckets, x);
-    let n = count + 1;
-    let more = insert::grow_table(s, n, buckets);
-    let epoch = state.epoch;
-    let next = State {
-        count: n,
-        buckets: more,
-        epoch,
-    };
-    Slot::At(n, next)
 }

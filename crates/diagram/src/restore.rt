@@ -1,39 +1,58 @@
 // Starting with no nodes, and coming back from a call that was refused.
-ghost use Rattle.diagram.specs.Restore.{StartEnsures, RollbackRequires, RollbackEnsures};
+ghost use Rattle.std.specs.Prelude.{◌≡◌, ◌*◌, ◌≤◌, length};
+ghost use Rattle.diagram.specs.Insert.{TableFits};
+ghost use Rattle.diagram.specs.Restore.{RebuiltOrNoRoom, StartEnsures, RollbackRequires, RollbackEnsures};
+ghost use Rattle.diagram.specs.Diagram.{KeepsLoans};
 
-use crate::make::State;
+use crate::diagram::Diagram;
+use crate::make::{BucketCount, State};
+use crate::node::NodeCount;
 use crate::{cache, insert};
 
-// No nodes, whatever the store and the cache hold.
-pub fn start(store: &mut [u8], cache: &mut [u64]) -> State
-    ensures { StartEnsures cache.new store.old store.new result }
+// The unique table made anew, where the store has room for one.
+fn remake(store: &mut [u8], count: NodeCount, buckets: BucketCount)
+    requires { (16 * count ≤ length store.old) × (16 ≤ length store.old → TableFits store.old count buckets) }
+    ensures { RebuiltOrNoRoom store.old store.new count buckets }
 {
-    cache::clear(cache);
-    if 16 <= store.len() {
-        insert::rebuild(store, 0, 1);
-    }
-    State {
-        count: 0,
-        buckets: 1,
-        epoch: 1,
-    }
-}
-
-// The nodes of s again, where a refused call has left more.
-pub fn rollback(store: &mut [u8], cache: &mut [u64], s: State) -> State
-    requires { RollbackRequires cache.old store.old s }
-    ensures { RollbackEnsures cache.new store.old store.new s result }
-{
-    let count = s.count;
-    let buckets = s.buckets;
-    let old = s.epoch;
-    let epoch = cache::next_epoch(cache, old);
     if 16 <= store.len() {
         insert::rebuild(store, count, buckets);
     }
-    State {
-        count,
-        buckets,
-        epoch,
+}
+
+impl<'a> Diagram<'a> {
+    // No nodes, whatever the store and the cache hold.
+    pub fn start(store: &'a mut [u8], cache: &'a mut [u64]) -> Diagram<'a>
+        ensures lent { (result.store.ghost_name ≡ store.entry.ghost_name)
+            × (result.cache.ghost_name ≡ cache.entry.ghost_name) }
+        ensures start { StartEnsures result.cache.now store.old result.store.now result.state }
+    {
+        cache::clear(cache);
+        remake(store, 0, 1);
+        let state = State {
+            count: 0,
+            buckets: 1,
+            epoch: 1,
+        };
+        Diagram {
+            store,
+            cache,
+            state,
+        }
+    }
+
+    // The nodes of `before` again, where a refused call has left more.
+    pub fn rollback(&mut self, before: State)
+        requires { RollbackRequires self.old.cache.now self.old.store.now before }
+        ensures loans { KeepsLoans self.old self.new }
+        ensures rollback { RollbackEnsures self.new.cache.now self.old.store.now self.new.store.now before
+            self.new.state }
+    {
+        let epoch = cache::next_epoch(self.cache, before.epoch);
+        remake(self.store, before.count, before.buckets);
+        self.state = State {
+            count: before.count,
+            buckets: before.buckets,
+            epoch,
+        };
     }
 }

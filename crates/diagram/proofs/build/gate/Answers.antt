@@ -1,9 +1,0 @@
-use Rattle.diagram.specs.BuildLaws.{bits_below_first, gate_whole}
-use borrow.Author.Rules.{rules}
-use Rattle.diagram.proofs.build.gate.Goals as goal
-
-pub part-requires : goal.part-requires
-part-requires c = search (rules, bits_below_first)
-
-pub returns : goal.returns
-returns c = search (rules, gate_whole)

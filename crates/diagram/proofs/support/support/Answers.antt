@@ -1,9 +1,0 @@
-use Rattle.diagram.specs.SupportStoreLaws.{support_leaf, support_read, support_read_small}
-use borrow.Author.Rules.{rules}
-use Rattle.diagram.proofs.support.support.Goals as goal
-
-pub returns-then-n-eq0 : goal.returns-then-n-eq0
-returns-then-n-eq0 c = search (rules, support_leaf)
-
-pub returns : goal.returns
-returns c = search (rules, support_read, support_read_small)
