@@ -1,5 +1,5 @@
 -- What is said of a diagram: its store's nodes, and what an operation leaves.
-use Rattle.std.specs.Prelude.{◌≡◌, ℕ, Bool, MatchResult, Result}
+use Rattle.std.specs.Prelude.{◌≡◌, ℕ, Bool, MatchResult, Result, length}
 use Rattle.diagram.specs.Tensor.{indices, Tensor}
 use Rattle.diagram.specs.Tally.{Step}
 use Rattle.diagram.specs.Meaning.{Valid}
@@ -51,11 +51,13 @@ MaskOfJoin d k l h r = NodeMaskEnsures d.store.now d.state k l h r
 
 -- the store and the cache are the ones that were lent
 pub record KeepsLoans (d d' : Diagram) : Type 0 where
+  pub long : length d'.store.now ≡ length d.store.now
   pub same_store : d'.store.ghost_name ≡ d.store.ghost_name
   pub same_cache : d'.cache.ghost_name ≡ d.cache.ghost_name
 
 -- .. and the cache is as it was
 pub record KeepsCache (d d' : Diagram) : Type 0 where
+  pub long : length d'.store.now ≡ length d.store.now
   pub same_store : d'.store.ghost_name ≡ d.store.ghost_name
   pub same_cache : d'.cache.ghost_name ≡ d.cache.ghost_name
   pub same_words : d'.cache.now ≡ d.cache.now

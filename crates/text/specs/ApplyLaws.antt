@@ -1,5 +1,5 @@
 -- Laws of Apply: each step as the code takes it.
-use Rattle.std.specs.Prelude.{◌≡◌, refl, true, [], List, ◌∷◌, ℕ, ◌-◌, ◌<◌, ◌≤◌, suc, ◌+◌, ◌*◌}
+use Rattle.std.specs.Prelude.{◌≡◌, refl, true, [], List, ◌∷◌, ℕ, ◌-◌, ◌<◌, ◌≤◌, suc, ◌+◌, ◌*◌, Result, Ok, Err}
 use Rattle.std.proofs.Common.{subst, ap, arith}
 use Rattle.diagram.specs.Tensor.{Tensor, Bits, times, bits, indices, indices_count, rename_down}
 use Rattle.diagram.specs.TallyContLaws.{cont_meaning, cont_grows}
@@ -15,7 +15,7 @@ use Rattle.diagram.specs.SetsLaws.{prefix_trans}
 use Rattle.diagram.specs.Store.{set_of, tensor_of, Refines}
 use Rattle.diagram.specs.Operation.{OperationRequires, RefinesCached}
 use Rattle.diagram.specs.Lower.{LowerRequires}
-use Rattle.diagram.specs.OperationLaws.{cached_as, cached_at, cached_then, cached_full_more, cached_step}
+use Rattle.diagram.specs.OperationLaws.{cached_as, cached_then, cached_full_more, cached_step}
 use Rattle.diagram.specs.Gate.{gate_tensor}
 use Rattle.diagram.specs.MeaningLaws.{valid_more}
 use Rattle.diagram.specs.StoreLaws.{tensor_kept, refines_count}
@@ -26,11 +26,10 @@ use Rattle.text.specs.Apply.{AllFree, rename_step, renamed_tensor, contract_step
 use Rattle.text.specs.QubitsLaws.{middles_set, gate_rising}
 use Rattle.diagram.specs.declared.node.Edge.{Edge}
 use Rattle.diagram.specs.declared.make.State.{State}
-use Rattle.diagram.specs.declared.join.Outcome.{Outcome}
+use Rattle.diagram.specs.declared.diagram.Full.{Full}
 use Rattle.text.specs.declared.qubits.Qubits.{Qubits}
 use Rattle.text.specs.declared.qubits.Qubits.TheVariants.{One, Two}
 use Rattle.diagram.specs.declared.gate.Gate.{Gate}
-use Rattle.diagram.specs.declared.join.Outcome.TheVariants as outcome
 
 -- contraction over k leaves nothing that depends on k; renaming another index keeps independence
 
@@ -98,12 +97,12 @@ contract_step_grows qs T A u s =
 
 -- the tensor of a step's edge is what the step answers
 answered : {c' s s' : List ℕ} {st t : State} {f : Step indices} {e : Edge}
-    → RefinesCached c' s s' st f (outcome.Edge e t)
+    → RefinesCached c' s s' st t f (Ok e)
     → (f (set_of s st)).0 ≡ tensor_of s' t e
 answered w = ap (λ p. p.0) w.step.is
 
 cached_requires : {c' s s' : List ℕ} {st t : State} {f : Step indices} {e : Edge}
-    → RefinesCached c' s s' st f (outcome.Edge e t)
+    → RefinesCached c' s s' st t f (Ok e)
     → OperationRequires c' s' t e e
 cached_requires w = record { sound = w.step.sound; left = w.step.valid; right = w.step.valid; cache = w.cache }
 
@@ -120,11 +119,13 @@ rename_allowed {q = q} p f =
 pub free_one : {q : ℕ} {x : Qubits} {T : Tensor indices} → x ≡ One q → Renamable (qubit_list x) T → Free (3 * q + 1) T
 free_one {T = T} e h = (subst (λ x. Renamable (qubit_list x) T) e h).free.0
 
-pub renamed_one : (c' s s' : List ℕ) (st : State) (T : Tensor indices) {q : ℕ} {x : Qubits} (r : Outcome) → x ≡ One q
-    → RefinesCached c' s s' st (low (3 * q + 2) T) r
-    → RefinesCached c' s s' st (rename_step (qubit_list x) T) r
+pub renamed_one : (c' s s' : List ℕ) (st t : State) (T : Tensor indices) {q : ℕ} {x : Qubits} (r : Result Edge Full)
+    → x ≡ One q
+    → RefinesCached c' s s' st t (low (3 * q + 2) T) r
+    → RefinesCached c' s s' st t (rename_step (qubit_list x) T) r
 unfolding rename_step ◌>>=◌ return
-renamed_one c' s s' st T {q} r e w = rw e (cached_as c' s s' st (rename_step (q ∷ []) T) (low (3 * q + 2) T) r refl w)
+renamed_one c' s s' st t T {q} r e w =
+    rw e (cached_as c' s s' st t (rename_step (q ∷ []) T) (low (3 * q + 2) T) r refl w)
 
 -- two qubits'
 
@@ -139,30 +140,29 @@ module _ {p q : ℕ} {x : Qubits} {T : Tensor indices} (e : x ≡ Two p q) (h : 
   second_free : (z : Set indices) → AllFree (q ∷ []) (low (3 * p + 2) T z).0
   second_free = low_free 0 p (q ∷ []) T two.rising two.free
 
-  module _ (c₁ s s₁ : List ℕ) (st : State) (m : Outcome) (w : RefinesCached c₁ s s₁ st (low (3 * p + 2) T) m) where
-    pub renamed_full : m ≡ outcome.Full → RefinesCached c₁ s s₁ st (rename_step (qubit_list x) T) outcome.Full
-    unfolding rename_step ◌>>=◌
-    renamed_full f =
-        rw e (cached_full_more (rename_step (p ∷ q ∷ []) T) (cached_at (low (3 * p + 2) T) m w f)
-        (rename_step_grows (suc p) (q ∷ []) (low (3 * p + 2) T (set_of s st)).0 two.rising.2
-        (second_free (set_of s st)) _))
+  pub renamed_full : {c₁ s s₁ : List ℕ} {st t : State} {f : Full} → RefinesCached c₁ s s₁ st t (low (3 * p + 2) T) (Err f)
+      → RefinesCached c₁ s s₁ st t (rename_step (qubit_list x) T) (Err f)
+  unfolding rename_step ◌>>=◌
+  renamed_full {s = s} {st = st} w =
+      rw e (cached_full_more (rename_step (p ∷ q ∷ []) T) w
+      (rename_step_grows (suc p) (q ∷ []) (low (3 * p + 2) T (set_of s st)).0 two.rising.2
+      (second_free (set_of s st)) _))
 
-    module _ {y : Edge} {t : State} (f : m ≡ outcome.Edge y t) where
-      first : RefinesCached c₁ s s₁ st (low (3 * p + 2) T) (outcome.Edge y t)
-      first = cached_at (low (3 * p + 2) T) m w f
+  module _ {c₁ s s₁ : List ℕ} {st t : State} {y : Edge} (w : RefinesCached c₁ s s₁ st t (low (3 * p + 2) T) (Ok y))
+      where
+    pub ready_second : OperationRequires c₁ s₁ t y y
+    ready_second = cached_requires w
 
-      pub ready_second : OperationRequires c₁ s₁ t y y
-      ready_second = cached_requires first
+    pub free_second : Free (3 * q + 1) (tensor_of s₁ t y)
+    free_second = rw (← answered w) (second_free (set_of s st)).0
 
-      pub free_second : Free (3 * q + 1) (tensor_of s₁ t y)
-      free_second = rw (← answered first) (second_free (set_of s st)).0
-
-      pub renamed_two : (c₂ s₂ : List ℕ) (r : Outcome) → RefinesCached c₂ s₁ s₂ t (low (3 * q + 2) (tensor_of s₁ t y)) r
-          → RefinesCached c₂ s s₂ st (rename_step (qubit_list x) T) r
-      unfolding rename_step ◌>>=◌ return
-      renamed_two c₂ s₂ r v =
-          rw e (cached_then c₂ s₂ (rename_step (p ∷ q ∷ []) T) (low (3 * q + 2) (tensor_of s₁ t y)) r first
-          (rw first.step.is) v)
+    pub renamed_two : (c₂ s₂ : List ℕ) (u : State) (r : Result Edge Full)
+        → RefinesCached c₂ s₁ s₂ t u (low (3 * q + 2) (tensor_of s₁ t y)) r
+        → RefinesCached c₂ s s₂ st u (rename_step (qubit_list x) T) r
+    unfolding rename_step ◌>>=◌ return
+    renamed_two c₂ s₂ u r v =
+        rw e (cached_then c₂ s₂ u (rename_step (p ∷ q ∷ []) T) (low (3 * q + 2) (tensor_of s₁ t y)) r w
+        (rw w.step.is) v)
 
 -- the contraction, and then the fresh indices
 
@@ -175,54 +175,52 @@ module _ {m : ℕ} (x : Qubits) (k : m ≡ middles (qubit_list x)) (u : Rising i
   loose : (z : Set indices) → Renamable (qubit_list x) (cont A T (bits m) z).0
   loose z = rw over record { rising = u; free = cont_all_free (qubit_list x) A T z u }
 
-  module _ (c₁ s s₁ : List ℕ) (st : State) (n : Outcome) (w : RefinesCached c₁ s s₁ st (cont A T (bits m)) n) where
-    pub contracted_full : n ≡ outcome.Full → RefinesCached c₁ s s₁ st (contract_step (qubit_list x) T A) outcome.Full
+  pub contracted_full : {c₁ s s₁ : List ℕ} {st t : State} {f : Full}
+      → RefinesCached c₁ s s₁ st t (cont A T (bits m)) (Err f)
+      → RefinesCached c₁ s s₁ st t (contract_step (qubit_list x) T A) (Err f)
+  unfolding contract_step ◌>>=◌
+  contracted_full {s = s} {st = st} w =
+      cached_full_more (contract_step (qubit_list x) T A) w
+      (rw over (rename_step_grows 0 (qubit_list x) _ u (cont_all_free (qubit_list x) A T (set_of s st) u) _))
+
+  module _ {c₁ s s₁ : List ℕ} {st t : State} {y : Edge} (w : RefinesCached c₁ s s₁ st t (cont A T (bits m)) (Ok y))
+      where
+    pub contracted_ready : OperationRequires c₁ s₁ t y y
+    contracted_ready = cached_requires w
+
+    pub contracted_renamable : Renamable (qubit_list x) (tensor_of s₁ t y)
+    contracted_renamable = subst (Renamable (qubit_list x)) (answered w) (loose (set_of s st))
+
+    pub contract_rename_refines : (c₂ s₂ : List ℕ) (q : State) (r : Result Edge Full)
+        → RefinesCached c₂ s₁ s₂ t q (rename_step (qubit_list x) (tensor_of s₁ t y)) r
+        → RefinesCached c₂ s s₂ st q (contract_step (qubit_list x) T A) r
     unfolding contract_step ◌>>=◌
-    contracted_full f =
-        cached_full_more (contract_step (qubit_list x) T A) (cached_at (cont A T (bits m)) n w f)
-        (rw over (rename_step_grows 0 (qubit_list x) _ u (cont_all_free (qubit_list x) A T (set_of s st) u) _))
-
-    module _ {y : Edge} {t : State} (f : n ≡ outcome.Edge y t) where
-      met : RefinesCached c₁ s s₁ st (cont A T (bits m)) (outcome.Edge y t)
-      met = cached_at (cont A T (bits m)) n w f
-
-      pub contracted_ready : OperationRequires c₁ s₁ t y y
-      contracted_ready = cached_requires met
-
-      pub contracted_renamable : Renamable (qubit_list x) (tensor_of s₁ t y)
-      contracted_renamable = subst (Renamable (qubit_list x)) (answered met) (loose (set_of s st))
-
-      pub contract_rename_refines : (c₂ s₂ : List ℕ) (r : Outcome)
-          → RefinesCached c₂ s₁ s₂ t (rename_step (qubit_list x) (tensor_of s₁ t y)) r
-          → RefinesCached c₂ s s₂ st (contract_step (qubit_list x) T A) r
-      unfolding contract_step ◌>>=◌
-      contract_rename_refines c₂ s₂ r v =
-          cached_then c₂ s₂ (contract_step (qubit_list x) T A) (rename_step (qubit_list x) (tensor_of s₁ t y)) r met
-          (rw (← over, met.step.is)) v
+    contract_rename_refines c₂ s₂ q r v =
+        cached_then c₂ s₂ q (contract_step (qubit_list x) T A) (rename_step (qubit_list x) (tensor_of s₁ t y)) r w
+        (rw (← over, w.step.is)) v
 
 -- the gate's tensor, and then the others
 
 pub apply_rising : (g : Gate) (qs : Qubits) → Placed most_qubits g → QubitsOf g qs → Rising indices 0 (qubit_list qs)
 apply_rising g qs p o = rw o.is (gate_rising indices most_qubits g (omega (arith, indices_count)) p)
 
-module _ {c s : List ℕ} {st : State} {x : Edge} (h : OperationRequires c s st x x) {g : Gate} (p : Placed most_qubits g)
-    {qs : Qubits} (o : QubitsOf g qs) (s₁ : List ℕ) (n : Outcome)
-    (w : Refines s s₁ st (build (gate_tensor indices g)) n) where
-  built : RefinesCached c s s₁ st (build (gate_tensor indices g)) n
-  built = cached_step s₁ (build (gate_tensor indices g)) n h w
-
-  pub apply_full : n ≡ outcome.Full → RefinesCached c s s₁ st (apply_step g (tensor_of s st x)) outcome.Full
+module _ {c c₁ s : List ℕ} {st : State} {x : Edge} (h : OperationRequires c s st x x) {g : Gate}
+    (p : Placed most_qubits g) (k : c₁ ≡ c) where
+  pub apply_full : {s₁ : List ℕ} {t : State} {f : Full} → Refines s s₁ st t (build (gate_tensor indices g)) (Err f)
+      → RefinesCached c₁ s s₁ st t (apply_step g (tensor_of s st x)) (Err f)
   unfolding apply_step ◌>>=◌
-  apply_full f =
-      cached_full_more (apply_step g (tensor_of s st x)) (cached_at (build (gate_tensor indices g)) n built f)
+  apply_full {s₁} {t} {f} w =
+      cached_full_more (apply_step g (tensor_of s st x))
+      (cached_step s₁ t (build (gate_tensor indices g)) (Err f) h k w)
       (contract_step_grows (qubits g) (tensor_of s st x) _
       (gate_rising indices most_qubits g (omega (arith, indices_count)) p) _)
 
-  module _ {a : Edge} {t : State} (f : n ≡ outcome.Edge a t) where
-    build_refines : RefinesCached c s s₁ st (build (gate_tensor indices g)) (outcome.Edge a t)
-    build_refines = cached_at (build (gate_tensor indices g)) n built f
+  module _ {qs : Qubits} (o : QubitsOf g qs) {s₁ : List ℕ} {t : State} {a : Edge}
+      (w : Refines s s₁ st t (build (gate_tensor indices g)) (Ok a)) where
+    build_refines : RefinesCached c₁ s s₁ st t (build (gate_tensor indices g)) (Ok a)
+    build_refines = cached_step s₁ t (build (gate_tensor indices g)) (Ok a) h k w
 
-    pub apply_ready : OperationRequires c s₁ t a x
+    pub apply_ready : OperationRequires c₁ s₁ t a x
     apply_ready = record {
       sound = build_refines.step.sound;
       left = build_refines.step.valid;
@@ -230,11 +228,11 @@ module _ {c s : List ℕ} {st : State} {x : Edge} (h : OperationRequires c s st 
       cache = build_refines.cache;
     }
 
-    pub apply_refines : (c₂ s₂ : List ℕ) (r : Outcome)
-        → RefinesCached c₂ s₁ s₂ t (contract_step (qubit_list qs) (tensor_of s₁ t x) (tensor_of s₁ t a)) r
-        → RefinesCached c₂ s s₂ st (apply_step g (tensor_of s st x)) r
+    pub apply_refines : (c₂ s₂ : List ℕ) (u : State) (r : Result Edge Full)
+        → RefinesCached c₂ s₁ s₂ t u (contract_step (qubit_list qs) (tensor_of s₁ t x) (tensor_of s₁ t a)) r
+        → RefinesCached c₂ s s₂ st u (apply_step g (tensor_of s st x)) r
     unfolding apply_step ◌>>=◌
-    apply_refines c₂ s₂ r v =
-        cached_then c₂ s₂ (apply_step g (tensor_of s st x))
+    apply_refines c₂ s₂ u r v =
+        cached_then c₂ s₂ u (apply_step g (tensor_of s st x))
         (contract_step (qubit_list qs) (tensor_of s₁ t x) (tensor_of s₁ t a)) r build_refines
         (rw (build_refines.step.is, o.is, tensor_kept s s₁ st t build_refines.step.grown h.left)) v

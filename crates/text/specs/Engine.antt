@@ -1,5 +1,5 @@
 -- What the engine holds between two lines, read as a tally, and how a call that sets a register ends.
-use Rattle.std.specs.Prelude.{List, ◌≡◌, true, ℕ}
+use Rattle.std.specs.Prelude.{List, ◌≡◌, true, ℕ, Result, MatchResult, length}
 use Rattle.diagram.specs.Tensor.{indices}
 use Rattle.diagram.specs.Store.{set_of}
 use Rattle.diagram.specs.Registers.{holds_all}
@@ -15,38 +15,51 @@ use Rattle.text.specs.Agrees.{Unchanged}
 use Rattle.text.specs.declared.engine.Engine.{Engine}
 use Rattle.text.specs.declared.answer.Answer.TheVariants.{No}
 use Rattle.text.specs.declared.call.Refusal.{Refusal}
-use Rattle.text.specs.declared.engine.Reply.{Reply}
+use Rattle.text.specs.declared.answer.Answer.{Answer}
 use Rattle.text.specs.declared.call.Refusal.TheVariants.{Full}
 use Rattle.diagram.specs.declared.make.State.{State}
-use Rattle.diagram.specs.declared.join.Outcome.{Outcome}
-use Rattle.diagram.specs.declared.join.Outcome.TheVariants as outcome
+use Rattle.diagram.specs.declared.registers.Registers.{Registers}
+use Rattle.diagram.specs.declared.node.Edge.{Edge}
+use Rattle.diagram.specs.declared.diagram.Full as steps
+
+-- what an engine holds beside the bytes of its store and its cache
+pub record Contents : Type 0 where
+  pub state : State
+  pub registers : Registers
+
+abbrev pub contents : Engine → Contents
+contents e = record { state = e.diagram.state; registers = e.registers }
+
+-- a call's answer, and what it leaves
+pub record Reply : Type 0 where
+  pub answer : Answer
+  pub engine : Contents
+
+abbrev pub reply : Answer → Engine → Reply
+reply a e = record { answer = a; engine = contents e }
 
 -- The tensors of the store's nodes, in order, and what the registers hold of them.
-unfoldable pub tally_of : List ℕ → Engine → Tally indices
+unfoldable pub tally_of : List ℕ → Contents → Tally indices
 tally_of s e = record { nodes = set_of s e.state; registers = holds_all (set_of s e.state) e.registers.all }
 
 -- what holds between two calls
-abbrev pub EngineInvariant : List ℕ → List ℕ → Engine → Type 0
+abbrev pub EngineInvariant : List ℕ → List ℕ → Contents → Type 0
 EngineInvariant c s e = Invariant c s e.state e.registers.all
 
 -- "A session starts with no nodes and empty registers."
-pub record EngineStartEnsures (c' s' : List ℕ) (e : Engine) : Type 0 where
+pub record EngineStartEnsures (c' s s' : List ℕ) (e : Contents) : Type 0 where
+  pub long : length s' ≡ length s
   pub invariant : EngineInvariant c' s' e
   pub is : tally_of s' e ≡ empty_tally
 
--- a refusal that has begun nothing
-pub record RefuseEnsures (e : Engine) (why : Refusal) (r : Reply) : Type 0 where
-  pub answer : r.answer ≡ No why
-  pub engine : r.engine ≡ e
-
 -- "A call whose set would exceed the capacity is refused as 8 (full), and set and registers are as before it."
-pub record RefuseFullEnsures (c' s s' : List ℕ) (e : Engine) (r : Reply) : Type 0 where
+pub record RefuseFullEnsures (c' s s' : List ℕ) (e : Contents) (r : Reply) : Type 0 where
   pub answer : r.answer ≡ No Full
   pub restored : RollbackEnsures c' s s' e.state r.engine.state
   pub registers : r.engine.registers.all ≡ e.registers.all
 
 -- "a refused line changes no register and leaves no new node"
-abbrev pub RefusedUnchanged : List ℕ → List ℕ → Engine → Reply → Type 0
+abbrev pub RefusedUnchanged : List ℕ → List ℕ → Contents → Reply → Type 0
 RefusedUnchanged s s' e r =
     is_no r.answer ≡ true
     → Unchanged s s' e.state.count r.engine.state.count e.registers.all r.engine.registers.all
@@ -60,18 +73,43 @@ abbrev pub FullForgets : List ℕ → Reply → Type 0
 FullForgets c' r = r.answer ≡ No Full → Forgotten c' r
 
 -- what a step that did not fit leaves can be rolled back
-pub record SettleRequires (c s : List ℕ) (st : State) (m : Outcome) : Type 0 where
-  pub left : m ≡ outcome.Full → RollbackRequires c s st
+abbrev pub SettleRequires : List ℕ → List ℕ → State → Result Edge steps.Full → Type 0
+SettleRequires c s st m = MatchResult m (λ _. Unit {0}) (λ _. RollbackRequires c s st)
 
 -- The call answers as the tally's does that sets register d by the step f, and leaves what that leaves.
-pub record SetsRegister (c' s s' : List ℕ) (e : Engine) (d : ℕ) (f : Step indices) (r : Reply) : Type 0 where
+pub record SetsRegister (c' s s' : List ℕ) (e : Contents) (d : ℕ) (f : Step indices) (r : Reply) : Type 0 where
   pub invariant : EngineInvariant c' s' r.engine
   pub small : SmallAnswer r.answer
   pub is : settle (at_most (capacity s)) d (f (set_of s e.state)) (tally_of s e) ≡ (r.answer, tally_of s' r.engine)
   pub refused : RefusedUnchanged s s' e r
   pub forgets : FullForgets c' r
 
--- whatever step made m, over the store s₀ before it
-pub record SettleEnsures (c s c' s' : List ℕ) (e : Engine) (d : ℕ) (m : Outcome) (r : Reply) : Type 0 where
-  pub on : (c₀ s₀ : List ℕ) (f : Step indices) → EngineInvariant c₀ s₀ e → RefinesCached c s₀ s e.state f m
+-- whatever step made m and left the state t, over the store s₀ before it
+pub record SettleEnsures (c s c' s' : List ℕ) (e : Contents) (t : State) (d : ℕ) (m : Result Edge steps.Full)
+    (r : Reply) : Type 0 where
+  pub on : (c₀ s₀ : List ℕ) (f : Step indices) → EngineInvariant c₀ s₀ e → RefinesCached c s₀ s e.state t f m
       → SetsRegister c' s₀ s' e d f r
+
+-- the same, of an engine e before the call and e' after it
+
+abbrev pub IsEngine : Engine → Type 0
+IsEngine e = EngineInvariant e.diagram.cache.now e.diagram.store.now (contents e)
+
+abbrev pub Sets : Engine → Engine → ℕ → Step indices → Answer → Type 0
+Sets e e' d f a = SetsRegister e'.diagram.cache.now e.diagram.store.now e'.diagram.store.now (contents e) d f
+    (reply a e')
+
+-- the engine e is where the step has left it, and st is the state before the step
+abbrev pub before_step : Engine → State → Contents
+before_step e st = record { state = st; registers = e.registers }
+
+abbrev pub RefusesFull : Engine → Engine → State → Answer → Type 0
+RefusesFull e e' st a = RefuseFullEnsures e'.diagram.cache.now e.diagram.store.now e'.diagram.store.now
+    (before_step e st) (reply a e')
+
+abbrev pub MaySettle : Engine → State → Result Edge steps.Full → Type 0
+MaySettle e st m = SettleRequires e.diagram.cache.now e.diagram.store.now st m
+
+abbrev pub Settles : Engine → Engine → State → ℕ → Result Edge steps.Full → Answer → Type 0
+Settles e e' st d m a = SettleEnsures e.diagram.cache.now e.diagram.store.now e'.diagram.cache.now
+    e'.diagram.store.now (before_step e st) e.diagram.state d m (reply a e')

@@ -1,5 +1,6 @@
 -- Laws of Engine: the start, and how a step is settled.
-use Rattle.std.specs.Prelude.{◌≡◌, refl, List, false, ℕ, ◌≤◌, ◌<◌, length, set}
+use Rattle.std.specs.Prelude.{◌≡◌, refl, List, false, ℕ, ◌≤◌, ◌<◌, length, set, Result}
+use Rattle.std.specs.Prelude as prelude
 use Rattle.std.proofs.Common.{◌∙◌, ap, sym, subst, arith, le-leb}
 use Rattle.std.proofs.lemmas.Bool.{false≢true, lt-leb}
 use Rattle.diagram.specs.Restore.{StartEnsures, RollbackEnsures, RollbackRequires}
@@ -15,37 +16,33 @@ use Rattle.diagram.specs.Node.{capacity}
 use Rattle.diagram.specs.Store.{set_of, tensor_of, RefinesEdge, nodes_of, RefinesFull, Refines}
 use Rattle.diagram.specs.StoreLaws.{set_length, refines_fits, refines_stays}
 use Rattle.diagram.specs.Operation.{RefinesCached}
-use Rattle.diagram.specs.OperationLaws.{cached_at}
 use Rattle.diagram.specs.Weights.{to_weight, modulus}
 use Rattle.diagram.specs.BuildLaws.{constant_valid, constant_tensor}
 use Rattle.text.specs.Answer.{is_no}
 use Rattle.text.specs.Session.{empty_tally, at_most, node_count, accept, settle, refuse}
 use Rattle.text.specs.Agrees.{Unchanged}
-use Rattle.text.specs.Engine.{tally_of, EngineStartEnsures, RefuseEnsures, RefuseFullEnsures, SetsRegister}
+use Rattle.text.specs.Engine.{Contents, Reply, tally_of, EngineStartEnsures, RefuseFullEnsures, SetsRegister}
 use Rattle.text.specs.Engine.{SettleEnsures}
 use Rattle.text.specs.Engine.{EngineInvariant, SettleRequires}
-use Rattle.text.specs.declared.engine.Engine.{Engine}
 use Rattle.diagram.specs.declared.node.Edge.{Edge}
 use Rattle.diagram.specs.declared.make.State.{State}
 use Rattle.diagram.specs.declared.registers.Registers.{Registers}
 use Rattle.text.specs.declared.answer.Answer.TheVariants.{Ok, No}
 use Rattle.text.specs.declared.call.Refusal.TheVariants.{Full}
-use Rattle.text.specs.declared.engine.Reply.{Reply}
 use Rattle.text.specs.declared.answer.Answer.{Answer}
 use Rattle.diagram.specs.declared.registers.Register.{Register}
-use Rattle.diagram.specs.declared.join.Outcome.{Outcome}
-use Rattle.diagram.specs.declared.join.Outcome.TheVariants as outcome
+use Rattle.diagram.specs.declared.diagram.Full as steps
 
 -- the start
 
-pub engine_start_ensures : {c s s' : List ℕ} {e : Engine} → StartEnsures c s s' e.state
+pub engine_start_ensures : {c s s' : List ℕ} {e : Contents} → StartEnsures c s s' e.state
     → e.registers.all ≡ empty_registers
-    → EngineStartEnsures c s' e
+    → EngineStartEnsures c s s' e
 unfolding tally_of empty_tally holds_all holds
-engine_start_ensures {s' = s'} {e} f q = record { invariant = invariant_start f q; is = rw (start_set f, q) }
+engine_start_ensures {s' = s'} {e} f q = record { long = f.long; invariant = invariant_start f q; is = rw (start_set f, q) }
 
 -- a step that was done: register d is its edge, the others hold what they held
-settle_edge : {s s' : List ℕ} {e : Engine} {t : State} {rs : Registers} (d : ℕ) {f : Step indices} {x : Edge}
+settle_edge : {s s' : List ℕ} {e : Contents} {t : State} {rs : Registers} (d : ℕ) {f : Step indices} {x : Edge}
     → RegistersValid e.state.count e.registers.all
     → RefinesEdge s s' e.state t f x → rs.all ≡ set e.registers.all d (filled_with x)
     → settle (at_most (capacity s)) d (f (set_of s e.state)) (tally_of s e)
@@ -63,21 +60,17 @@ settle_edge {s} {s'} {e} {t} d {x = x} g w q =
     )
 
 -- a step that did not fit: the nodes are as before it, and the registers
-settle_full : {s s₁ : List ℕ} (s' : List ℕ) {e : Engine} (n : Engine) (d : ℕ) {f : Step indices}
+settle_full : {s s₁ : List ℕ} (s' : List ℕ) {e : Contents} (n : Contents) (d : ℕ) {f : Step indices}
     → RefinesFull s s₁ e.state f → nodes_of s' n.state ≡ nodes_of s₁ e.state
     → n.registers.all ≡ e.registers.all
     → settle (at_most (capacity s)) d (f (set_of s e.state)) (tally_of s e) ≡ (No Full, tally_of s' n)
 unfolding settle refuse tally_of set_of
 settle_full s' n d w q r = rw (lt-leb _ _ w.full, r, q ∙ w.kept)
 
-pub refuse_full_ensures : {c' s s' : List ℕ} {e : Engine} {st : State} {rs : Registers} {r : Reply}
-    → RollbackEnsures c' s s' e.state st → rs ≡ e.registers
-    → RefuseEnsures (record { state = st; registers = rs }) Full r → RefuseFullEnsures c' s s' e r
-refuse_full_ensures {c'} {s} {s'} {e} b q f = record {
-  answer = f.answer;
-  restored = subst (λ (n : Engine). RollbackEnsures c' s s' e.state n.state) (sym f.engine) b;
-  registers = ap (λ (n : Engine). n.registers.all) f.engine ∙ ap (λ (n : Registers). n.all) q;
-}
+pub refuse_full_ensures : {c' s s' : List ℕ} {e : Contents} {st : State} → RollbackEnsures c' s s' e.state st
+    → RefuseFullEnsures c' s s' e
+    (record { answer = No Full; engine = record { state = st; registers = e.registers } })
+refuse_full_ensures b = record { answer = refl; restored = b; registers = refl }
 
 -- an accepted call is not refused as full
 pub never_full : {X : Type 0} (a : Answer) → is_no a ≡ false → a ≡ No Full → X
@@ -89,33 +82,33 @@ nodes_unchanged : {s s' : List ℕ} (st st' : State) {rs rs' : List Register} �
 unfolding nodes_of
 nodes_unchanged st st' p q = record { nodes = p; registers = q }
 
-pub settle_ensures_full : {c s c' s' : List ℕ} {e : Engine} {d : ℕ} {m : Outcome} {r : Reply} → m ≡ outcome.Full
-    → RefuseFullEnsures c' s s' e r → SettleEnsures c s c' s' e d m r
-settle_ensures_full {c} {s} {c'} {s'} {e} {d} {m} {r} q b = record { on = on }
+pub settle_ensures_full : {c s c' s' : List ℕ} {e : Contents} {t : State} {d : ℕ} {x : steps.Full} {r : Reply}
+    → RefuseFullEnsures c' s s' e r → SettleEnsures c s c' s' e t d (prelude.Err x) r
+settle_ensures_full {c} {s} {c'} {s'} {e} {t} {d} {x} {r} b = record { on = on }
   where
-    on : (c₀ s₀ : List ℕ) (f : Step indices) → EngineInvariant c₀ s₀ e → RefinesCached c s₀ s e.state f m
+    on : (c₀ s₀ : List ℕ) (f : Step indices) → EngineInvariant c₀ s₀ e
+        → RefinesCached c s₀ s e.state t f (prelude.Err x)
         → SetsRegister c' s₀ s' e d f r
     on c₀ s₀ f p w = record {
       invariant = rw b.registers (invariant_rollback p.registers b.restored);
       small = rw b.answer tt;
-      is = rw b.answer (settle_full s' r.engine d (cached_at f m w q).step b.restored.kept b.registers);
-      refused = λ no. nodes_unchanged e.state r.engine.state (b.restored.kept
-          ∙ (cached_at f m w q).step.kept) b.registers;
+      is = rw b.answer (settle_full s' r.engine d w.step b.restored.kept b.registers);
+      refused = λ no. nodes_unchanged e.state r.engine.state (b.restored.kept ∙ w.step.kept) b.registers;
       forgets = λ full. b.restored.forgotten;
     }
 
-pub settle_ensures_edge : {c s : List ℕ} {e : Engine} {d : ℕ} {m : Outcome} {x : Edge} {t : State} {rs : Registers}
-    → m ≡ outcome.Edge x t
+pub settle_ensures_edge : {c s : List ℕ} {e : Contents} {d : ℕ} {x : Edge} {t : State} {rs : Registers}
     → rs.all ≡ set e.registers.all d (filled_with x)
-    → SettleEnsures c s c s e d m (record { answer = Ok t.count; engine = record { state = t; registers = rs } })
-settle_ensures_edge {c} {s} {e} {d} {m} {x} {t} {rs} q b = record { on = on }
+    → SettleEnsures c s c s e t d (prelude.Ok x)
+    (record { answer = Ok t.count; engine = record { state = t; registers = rs } })
+settle_ensures_edge {c} {s} {e} {d} {x} {t} {rs} b = record { on = on }
   where
-    on : (c₀ s₀ : List ℕ) (f : Step indices) → EngineInvariant c₀ s₀ e → RefinesCached c s₀ s e.state f m
+    on : (c₀ s₀ : List ℕ) (f : Step indices) → EngineInvariant c₀ s₀ e
+        → RefinesCached c s₀ s e.state t f (prelude.Ok x)
         → SetsRegister c s₀ s e d f (record { answer = Ok t.count; engine = record { state = t; registers = rs } })
-    on c₀ s₀ f p w =
-        let n : RefinesCached c s₀ s e.state f (outcome.Edge x t) = cached_at f m w q in
+    on c₀ s₀ f p n =
         record {
-          invariant = invariant_cached p f m d b w q;
+          invariant = invariant_cached p d b n;
           small = omega (arith, n.step.sound.stored.numbered);
           is = settle_edge d p.registers n.step b;
           refused = λ no. absurd (false≢true no);
@@ -123,37 +116,36 @@ settle_ensures_edge {c} {s} {e} {d} {m} {x} {t} {rs} q b = record { on = on }
         }
 
 -- a step's answer can be settled
-pub cached_settle_requires : {c c' s s' : List ℕ} {st : State} {rs : List Register} (f : Step indices) {m : Outcome}
+pub cached_settle_requires : {c c' s s' : List ℕ} {st t : State} {rs : List Register} {f : Step indices}
+    (m : Result Edge steps.Full)
     → Invariant c s st rs
-    → RefinesCached c' s s' st f m → SettleRequires c' s' st m
-cached_settle_requires f {m} p w = record { left = λ q. full_rollback p.sound (cached_at f m w q) }
+    → RefinesCached c' s s' st t f m → SettleRequires c' s' st m
+cached_settle_requires (prelude.Ok e) p w = tt
+cached_settle_requires (prelude.Err x) p w = full_rollback p.sound w
 
-pub step_settle_requires : {c s s' : List ℕ} {st : State} {rs : List Register} (f : Step indices) {m : Outcome}
-    → Invariant c s st rs
-    → Refines s s' st f m → SettleRequires c s' st m
-step_settle_requires {s' = s'} f {m} p w = cached_settle_requires f p (refines_cached s' p f m w)
-
-pub edge_settle_requires : {c s : List ℕ} {st t : State} {x : Edge} → SettleRequires c s st (outcome.Edge x t)
-edge_settle_requires = record { left = λ q. absurd (let z : ◌≡◌ {A = ℕ} 0 1 = cc in omega arith) }
-
-pub settle_requires_full : {c s : List ℕ} {st : State} {m : Outcome} → SettleRequires c s st m → m ≡ outcome.Full
-    → RollbackRequires c s st
-settle_requires_full l e = l.left e
+pub step_settle_requires : {c c' s s' : List ℕ} {st t : State} {rs : List Register} {f : Step indices}
+    (m : Result Edge steps.Full)
+    → Invariant c s st rs → c' ≡ c
+    → Refines s s' st t f m → SettleRequires c' s' st m
+step_settle_requires {s' = s'} {t = t} {f = f} m p k w =
+    rw k (cached_settle_requires m p (refines_cached s' p t f m w))
 
 -- the step, and then the register
-module _ {c s c' s' : List ℕ} {e : Engine} {d : ℕ} {r : Reply} (p : EngineInvariant c s e) where
-  pub sets_register_cached : {c₁ s₁ : List ℕ} {m : Outcome} (f : Step indices) → RefinesCached c₁ s s₁ e.state f m
-      → SettleEnsures c₁ s₁ c' s' e d m r
+module _ {c s c' s' : List ℕ} {e : Contents} {d : ℕ} {r : Reply} (p : EngineInvariant c s e) where
+  pub sets_register_cached : {c₁ s₁ : List ℕ} {t : State} {m : Result Edge steps.Full} (f : Step indices)
+      → RefinesCached c₁ s s₁ e.state t f m
+      → SettleEnsures c₁ s₁ c' s' e t d m r
       → SetsRegister c' s s' e d f r
   sets_register_cached f w h = h.on c s f p w
 
-  pub sets_register_step : {s₁ : List ℕ} {m : Outcome} (f : Step indices) → Refines s s₁ e.state f m
-      → SettleEnsures c s₁ c' s' e d m r → SetsRegister c' s s' e d f r
-  sets_register_step {s₁} {m} f w h = h.on c s f p (refines_cached s₁ p f m w)
+  pub sets_register_step : {c₁ s₁ : List ℕ} {t : State} {m : Result Edge steps.Full} (f : Step indices) → c₁ ≡ c
+      → Refines s s₁ e.state t f m
+      → SettleEnsures c₁ s₁ c' s' e t d m r → SetsRegister c' s s' e d f r
+  sets_register_step {c₁} {s₁} {t} {m} f k w h = h.on c s f p (rw k (refines_cached s₁ p t f m w))
 
   -- a constant: nothing is put in
   pub sets_register_constant : {w : ℕ} → w < modulus
-      → SettleEnsures c s c' s' e d (outcome.Edge (record { weight = w; node = 0 }) e.state) r
+      → SettleEnsures c s c' s' e e.state d (prelude.Ok (record { weight = w; node = 0 })) r
       → SetsRegister c' s s' e d (return (constant indices (to_weight w))) r
   unfolding return
   sets_register_constant {w} small h =

@@ -5,26 +5,26 @@ use Rattle.std.proofs.Common.{arith}
 use Rattle.diagram.specs.Tensor.{indices}
 use Rattle.diagram.specs.Tally.{Step}
 use Rattle.text.specs.Session.{refuse}
-use Rattle.text.specs.Engine.{tally_of, RefuseEnsures, SetsRegister, EngineInvariant}
+use Rattle.text.specs.Engine.{Contents, Reply, tally_of, SetsRegister, EngineInvariant}
 use Rattle.text.specs.Operate.{SetsUnless}
 use Rattle.text.specs.RespondLaws.{refused_forgets}
-use Rattle.text.specs.declared.engine.Engine.{Engine}
+use Rattle.text.specs.declared.answer.Answer.TheVariants.{No}
 use Rattle.text.specs.declared.call.Refusal.TheVariants.{Depends}
-use Rattle.text.specs.declared.engine.Reply.{Reply}
 
-module _ {s : List ℕ} {e : Engine} {d : ℕ} {b test : Bool} {f : Step indices} {r : Reply} (told : b ≡ test) where
-  pub unless_refused : {c : List ℕ} → EngineInvariant c s e → b ≡ true → RefuseEnsures e Depends r
-      → SetsUnless c s s e d test f r
+module _ {s : List ℕ} {e : Contents} {d : ℕ} {b test : Bool} {f : Step indices} (told : b ≡ test) where
+  pub unless_refused : {c : List ℕ} → EngineInvariant c s e → b ≡ true
+      → SetsUnless c s s e d test f (record { answer = No Depends; engine = e })
   unfolding refuse
-  unless_refused p q g = record {
-    invariant = rw g.engine p;
-    small = rw g.answer tt;
-    is = rw (← told, q, g.answer, g.engine);
-    refused = λ no. rw g.engine record { nodes = refl; registers = refl };
-    forgets = refused_forgets Depends (λ z. omega arith) g;
+  unless_refused p q = record {
+    invariant = p;
+    small = tt;
+    is = rw (← told, q);
+    refused = λ no. record { nodes = refl; registers = refl };
+    forgets = refused_forgets Depends (λ z. omega arith);
   }
 
-  pub unless_sets : {c' s' : List ℕ} → b ≡ false → SetsRegister c' s s' e d f r → SetsUnless c' s s' e d test f r
+  pub unless_sets : {c' s' : List ℕ} {r : Reply} → b ≡ false → SetsRegister c' s s' e d f r
+      → SetsUnless c' s s' e d test f r
   unfolding tally_of
   unless_sets q g = record {
     invariant = g.invariant;

@@ -3,9 +3,10 @@ use Rattle.std.specs.Prelude.{List, ◌≡◌, ℕ}
 use Rattle.diagram.specs.Node.{capacity}
 use Rattle.text.specs.Answer.{SmallAnswer}
 use Rattle.text.specs.Session.{at_most, answer}
-use Rattle.text.specs.Engine.{Forgotten, FullForgets, tally_of, RefusedUnchanged, EngineInvariant}
+use Rattle.text.specs.Engine.{Contents, contents, Reply, reply, Forgotten, FullForgets, tally_of, RefusedUnchanged}
+use Rattle.text.specs.Engine.{EngineInvariant}
 use Rattle.text.specs.declared.call.Call.{Call}
-use Rattle.text.specs.declared.engine.Reply.{Reply}
+use Rattle.text.specs.declared.answer.Answer.{Answer}
 use Rattle.text.specs.declared.engine.Engine.{Engine}
 use Rattle.text.specs.declared.call.Call.TheVariants as call
 
@@ -26,17 +27,14 @@ Forgets (call.Lows d a m) = FullForgets
 Forgets (call.Refused why) = λ c' r. Unit {0}
 
 -- The call answers as the tally's does, and leaves what the tally's leaves.
-pub record RespondEnsures (c' s s' : List ℕ) (e : Engine) (x : Call) (r : Reply) : Type 0 where
+pub record RespondEnsures (c' s s' : List ℕ) (e : Contents) (x : Call) (r : Reply) : Type 0 where
   pub invariant : EngineInvariant c' s' r.engine
   pub small : SmallAnswer r.answer
   pub is : answer (at_most (capacity s)) x (tally_of s e) ≡ (r.answer, tally_of s' r.engine)
   pub refused : RefusedUnchanged s s' e r
   pub forgets : Forgets x c' r
 
--- the same for a call that changes neither store nor cache, over every cache; and, where it does not read the store,
--- over every store
-pub record ReadEnsures (s : List ℕ) (e : Engine) (x : Call) (r : Reply) : Type 0 where
-  pub on : (c : List ℕ) → EngineInvariant c s e → RespondEnsures c s s e x r
-
-pub record PureEnsures (e : Engine) (x : Call) (r : Reply) : Type 0 where
-  pub on : (s : List ℕ) → ReadEnsures s e x r
+-- the same, of an engine e before the call and e' after it
+abbrev pub Responds : Engine → Engine → Call → Answer → Type 0
+Responds e e' x a = RespondEnsures e'.diagram.cache.now e.diagram.store.now e'.diagram.store.now (contents e) x
+    (reply a e')

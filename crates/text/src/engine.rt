@@ -1,76 +1,64 @@
 // What a session holds between two lines, and how a call that sets a register ends.
-ghost use Rattle.std.specs.Prelude.{◌<◌};
+ghost use Rattle.std.specs.Prelude.{◌≡◌, ◌<◌};
 ghost use Rattle.diagram.specs.Restore.{RollbackRequires};
+ghost use Rattle.diagram.specs.Diagram.{KeepsLoans};
 ghost use Rattle.text.specs.Limits.{register_count};
-ghost use Rattle.text.specs.Engine.{EngineStartEnsures, RefuseEnsures, RefuseFullEnsures};
-ghost use Rattle.text.specs.Engine.{SettleRequires, SettleEnsures};
+ghost use Rattle.text.specs.Engine.{EngineStartEnsures, contents, RefusesFull, MaySettle, Settles};
 
 use crate::answer::Answer;
 use crate::call::Refusal;
-use diagram::join::Outcome;
+use diagram::diagram::{Diagram, Full};
 use diagram::make::State;
+use diagram::node::Edge;
+use diagram::registers;
 use diagram::registers::{RegisterNumber, Registers};
-use diagram::{registers, restore};
 
-// The nodes are in the store; this is the rest.
-#[derive(Clone, Copy)]
-pub struct Engine {
-    pub state: State,
+#[derive(Drop)]
+pub struct Engine<'a> {
+    pub diagram: Diagram<'a>,
     pub registers: Registers,
 }
 
-// A call's answer, and what it leaves.
-#[derive(Clone, Copy)]
-pub struct Reply {
-    pub answer: Answer,
-    pub engine: Engine,
-}
+impl<'a> Engine<'a> {
+    // "A session starts with no nodes and empty registers."
+    pub fn start(store: &'a mut [u8], cache: &'a mut [u64]) -> Engine<'a>
+        ensures lent { (result.diagram.store.ghost_name ≡ store.entry.ghost_name)
+            × (result.diagram.cache.ghost_name ≡ cache.entry.ghost_name) }
+        ensures start { EngineStartEnsures result.diagram.cache.now store.old result.diagram.store.now
+            (contents result) }
+    {
+        Engine {
+            diagram: Diagram::start(store, cache),
+            registers: registers::empty(),
+        }
+    }
 
-// "A session starts with no nodes and empty registers."
-pub fn start(store: &mut [u8], cache: &mut [u64]) -> Engine
-    ensures { EngineStartEnsures cache.new store.new result }
-{
-    let state = restore::start(store, cache);
-    let registers = registers::empty();
-    Engine { state, registers }
-}
+    // 8: the nodes as before the call, and nothing that it remembered is used.
+    fn refuse_full(&mut self, before: State) -> Answer
+        requires { RollbackRequires self.old.diagram.cache.now self.old.diagram.store.now before }
+        ensures loans { KeepsLoans self.old.diagram self.new.diagram }
+        ensures refuses { RefusesFull self.old self.new before result }
+    {
+        self.diagram.rollback(before);
+        Answer::No(Refusal::Full)
+    }
 
-// Nothing was begun.
-pub(crate) fn refuse(engine: Engine, why: Refusal) -> Reply
-    ensures { RefuseEnsures engine why result }
-{
-    let answer = Answer::No(why);
-    Reply { answer, engine }
-}
-
-// 8: the nodes as before the call, and nothing that it remembered is used.
-fn refuse_full(store: &mut [u8], cache: &mut [u64], engine: Engine) -> Reply
-    requires { RollbackRequires cache.old store.old engine.state }
-    ensures { RefuseFullEnsures cache.new store.old store.new engine result }
-{
-    let state = restore::rollback(store, cache, engine.state);
-    let registers = engine.registers;
-    let engine = Engine { state, registers };
-    refuse(engine, Refusal::Full)
-}
-
-// "Register d is set last": to the edge of the step's outcome; or the step did not fit.
-pub(crate) fn settle(
-    store: &mut [u8],
-    cache: &mut [u64],
-    engine: Engine,
-    d: RegisterNumber,
-    outcome: Outcome,
-) -> Reply
-    requires { SettleRequires cache.old store.old engine.state outcome × (d < register_count) }
-    ensures { SettleEnsures cache.old store.old cache.new store.new
-        engine d outcome result }
-{
-    let Outcome::Edge(e, state) = outcome else {
-        return refuse_full(store, cache, engine);
-    };
-    let registers = registers::put(engine.registers, d, e);
-    let answer = Answer::Ok(state.count);
-    let engine = Engine { state, registers };
-    Reply { answer, engine }
+    // "Register d is set last": to the edge of a step that was done; or the step did not fit. The state is that before
+    // the step.
+    pub(crate) fn settle(
+        &mut self,
+        before: State,
+        d: RegisterNumber,
+        step: Result<Edge, Full>,
+    ) -> Answer
+        requires { MaySettle self.old before step × (d < register_count) }
+        ensures loans { KeepsLoans self.old.diagram self.new.diagram }
+        ensures settles { Settles self.old self.new before d step result }
+    {
+        let Ok(e) = step else {
+            return self.refuse_full(before);
+        };
+        self.registers = registers::put(self.registers, d, e);
+        Answer::Ok(self.diagram.state.count)
+    }
 }

@@ -1,124 +1,21 @@
 // What a call does and answers (document 01, "Session calls"; document 02, `on` and `lows`). Its line was read, so 1,
 // 2, 4, 5 and 6 are past: "3 from the left; 7; 8".
 ghost use Rattle.std.specs.Prelude.{◌≡◌};
-ghost use Rattle.diagram.specs.Store.{Sound};
-ghost use Rattle.diagram.specs.Registers.{RegistersValid};
+ghost use Rattle.diagram.specs.Diagram.{KeepsLoans};
 ghost use Rattle.text.specs.Session.{comparison};
 ghost use Rattle.text.specs.Call.{InRange};
-ghost use Rattle.text.specs.Respond.{RespondEnsures, ReadEnsures, PureEnsures};
-ghost use Rattle.text.specs.Engine.{EngineInvariant};
+ghost use Rattle.text.specs.Engine.{IsEngine};
+ghost use Rattle.text.specs.Respond.{Responds};
 ghost use Rattle.text.specs.declared.call.Call.TheVariants as call;
 
 use crate::answer::Answer;
 use crate::call::{Call, Refusal};
-use crate::engine::{Engine, Reply};
+use crate::engine::Engine;
 use crate::limits::{Assignment, Mask};
-use crate::{engine, operate};
 use diagram::compare::Comparison;
 use diagram::node::Index;
 use diagram::registers::{RegisterContent, RegisterNumber};
-use diagram::{collect, compare, registers, support, value};
-
-fn add(
-    store: &mut [u8],
-    cache: &mut [u64],
-    engine: Engine,
-    d: RegisterNumber,
-    a: RegisterNumber,
-    b: RegisterNumber,
-) -> Reply
-    requires { EngineInvariant cache.old store.old engine × InRange (call.Add d a b) }
-    ensures { RespondEnsures cache.new store.old store.new engine
-        (call.Add d a b) result }
-{
-    let RegisterContent::Edge(x) = registers::get(engine.registers, a) else {
-        return engine::refuse(engine, Refusal::Empty);
-    };
-    let RegisterContent::Edge(y) = registers::get(engine.registers, b) else {
-        return engine::refuse(engine, Refusal::Empty);
-    };
-    operate::add(store, cache, engine, d, x, y)
-}
-
-fn cont(
-    store: &mut [u8],
-    cache: &mut [u64],
-    engine: Engine,
-    d: RegisterNumber,
-    a: RegisterNumber,
-    b: RegisterNumber,
-    m: Mask,
-) -> Reply
-    requires { EngineInvariant cache.old store.old engine × InRange (call.Cont d a b m) }
-    ensures { RespondEnsures cache.new store.old store.new engine
-        (call.Cont d a b m) result }
-{
-    let RegisterContent::Edge(x) = registers::get(engine.registers, a) else {
-        return engine::refuse(engine, Refusal::Empty);
-    };
-    let RegisterContent::Edge(y) = registers::get(engine.registers, b) else {
-        return engine::refuse(engine, Refusal::Empty);
-    };
-    operate::cont(store, cache, engine, d, x, y, m)
-}
-
-fn low(
-    store: &mut [u8],
-    cache: &mut [u64],
-    engine: Engine,
-    d: RegisterNumber,
-    a: RegisterNumber,
-    k: Index,
-) -> Reply
-    requires { EngineInvariant cache.old store.old engine × InRange (call.Low d a k) }
-    ensures { RespondEnsures cache.new store.old store.new engine
-        (call.Low d a k) result }
-{
-    let RegisterContent::Edge(x) = registers::get(engine.registers, a) else {
-        return engine::refuse(engine, Refusal::Empty);
-    };
-    operate::low(store, cache, engine, d, x, k)
-}
-
-fn drop(engine: Engine, a: RegisterNumber) -> Reply
-    requires { InRange (call.Drop a) }
-    ensures { PureEnsures engine (call.Drop a) result }
-{
-    let RegisterContent::Edge(_) = registers::get(engine.registers, a) else {
-        return engine::refuse(engine, Refusal::Empty);
-    };
-    let state = engine.state;
-    let answer = Answer::Ok(state.count);
-    let registers = registers::clear(engine.registers, a);
-    let engine = Engine { state, registers };
-    Reply { answer, engine }
-}
-
-fn collect(store: &mut [u8], cache: &mut [u64], engine: Engine) -> Reply
-    requires { EngineInvariant cache.old store.old engine }
-    ensures { RespondEnsures cache.new store.old store.new engine
-        call.Collect result }
-{
-    let swept = collect::collect(store, cache, engine.state, engine.registers);
-    let state = swept.state;
-    let registers = swept.registers;
-    let answer = Answer::Ok(state.count);
-    let engine = Engine { state, registers };
-    Reply { answer, engine }
-}
-
-fn at(store: &[u8], engine: Engine, a: RegisterNumber, v: Assignment) -> Reply
-    requires { Sound store.now engine.state ×
-        (RegistersValid engine.state.count engine.registers.all × InRange (call.At a v)) }
-    ensures { ReadEnsures store.now engine (call.At a v) result }
-{
-    let RegisterContent::Edge(x) = registers::get(engine.registers, a) else {
-        return engine::refuse(engine, Refusal::Empty);
-    };
-    let w = value::value(store, engine.state, x, v as u64);
-    let answer = Answer::Value(w as usize);
-    Reply { answer, engine }
-}
+use diagram::{compare, registers};
 
 fn comparison(c: Comparison) -> Answer
     ensures { result ≡ comparison c }
@@ -130,68 +27,138 @@ fn comparison(c: Comparison) -> Answer
     }
 }
 
-pub(crate) fn cmp(engine: Engine, a: RegisterNumber, b: RegisterNumber) -> Reply
-    requires { RegistersValid engine.state.count engine.registers.all × InRange (call.Cmp a b) }
-    ensures { PureEnsures engine (call.Cmp a b) result }
-{
-    let RegisterContent::Edge(x) = registers::get(engine.registers, a) else {
-        return engine::refuse(engine, Refusal::Empty);
-    };
-    let RegisterContent::Edge(y) = registers::get(engine.registers, b) else {
-        return engine::refuse(engine, Refusal::Empty);
-    };
-    let answer = comparison(compare::compare(x, y));
-    Reply { answer, engine }
-}
+impl<'a> Engine<'a> {
+    fn respond_add(&mut self, d: RegisterNumber, a: RegisterNumber, b: RegisterNumber) -> Answer
+        requires { IsEngine self.old × InRange (call.Add d a b) }
+        ensures loans { KeepsLoans self.old.diagram self.new.diagram }
+        ensures responds { Responds self.old self.new (call.Add d a b) result }
+    {
+        let RegisterContent::Edge(x) = registers::get(self.registers, a) else {
+            return Answer::No(Refusal::Empty);
+        };
+        let RegisterContent::Edge(y) = registers::get(self.registers, b) else {
+            return Answer::No(Refusal::Empty);
+        };
+        self.add(d, x, y)
+    }
 
-fn on(store: &[u8], engine: Engine, a: RegisterNumber) -> Reply
-    requires { Sound store.now engine.state ×
-        (RegistersValid engine.state.count engine.registers.all × InRange (call.On a)) }
-    ensures { ReadEnsures store.now engine (call.On a) result }
-{
-    let RegisterContent::Edge(x) = registers::get(engine.registers, a) else {
-        return engine::refuse(engine, Refusal::Empty);
-    };
-    let m = support::support(store, engine.state, x);
-    let answer = Answer::Mask(m as usize);
-    Reply { answer, engine }
-}
+    fn respond_cont(
+        &mut self,
+        d: RegisterNumber,
+        a: RegisterNumber,
+        b: RegisterNumber,
+        m: Mask,
+    ) -> Answer
+        requires { IsEngine self.old × InRange (call.Cont d a b m) }
+        ensures loans { KeepsLoans self.old.diagram self.new.diagram }
+        ensures responds { Responds self.old self.new (call.Cont d a b m) result }
+    {
+        let RegisterContent::Edge(x) = registers::get(self.registers, a) else {
+            return Answer::No(Refusal::Empty);
+        };
+        let RegisterContent::Edge(y) = registers::get(self.registers, b) else {
+            return Answer::No(Refusal::Empty);
+        };
+        self.cont(d, x, y, m)
+    }
 
-fn lows(
-    store: &mut [u8],
-    cache: &mut [u64],
-    engine: Engine,
-    d: RegisterNumber,
-    a: RegisterNumber,
-    m: Mask,
-) -> Reply
-    requires { EngineInvariant cache.old store.old engine × InRange (call.Lows d a m) }
-    ensures { RespondEnsures cache.new store.old store.new engine
-        (call.Lows d a m) result }
-{
-    let RegisterContent::Edge(x) = registers::get(engine.registers, a) else {
-        return engine::refuse(engine, Refusal::Empty);
-    };
-    operate::lows(store, cache, engine, d, x, m)
-}
+    fn respond_low(&mut self, d: RegisterNumber, a: RegisterNumber, k: Index) -> Answer
+        requires { IsEngine self.old × InRange (call.Low d a k) }
+        ensures loans { KeepsLoans self.old.diagram self.new.diagram }
+        ensures responds { Responds self.old self.new (call.Low d a k) result }
+    {
+        let RegisterContent::Edge(x) = registers::get(self.registers, a) else {
+            return Answer::No(Refusal::Empty);
+        };
+        self.low(d, x, k)
+    }
 
-pub(crate) fn respond(store: &mut [u8], cache: &mut [u64], engine: Engine, call: Call) -> Reply
-    requires { EngineInvariant cache.old store.old engine × InRange call }
-    ensures { RespondEnsures cache.new store.old store.new engine call result }
-{
-    match call {
-        Call::Put(d, w) => operate::put(store, cache, engine, d, w),
-        Call::Gate(d, g) => operate::gate(store, cache, engine, d, g),
-        Call::Unit(d, n) => operate::unit(store, cache, engine, d, n),
-        Call::Add(d, a, b) => add(store, cache, engine, d, a, b),
-        Call::Cont(d, a, b, m) => cont(store, cache, engine, d, a, b, m),
-        Call::Low(d, a, k) => low(store, cache, engine, d, a, k),
-        Call::Drop(a) => drop(engine, a),
-        Call::Collect => collect(store, cache, engine),
-        Call::At(a, v) => at(store, engine, a, v),
-        Call::Cmp(a, b) => cmp(engine, a, b),
-        Call::On(a) => on(store, engine, a),
-        Call::Lows(d, a, m) => lows(store, cache, engine, d, a, m),
-        Call::Refused(r) => engine::refuse(engine, r),
+    fn respond_lows(&mut self, d: RegisterNumber, a: RegisterNumber, m: Mask) -> Answer
+        requires { IsEngine self.old × InRange (call.Lows d a m) }
+        ensures loans { KeepsLoans self.old.diagram self.new.diagram }
+        ensures responds { Responds self.old self.new (call.Lows d a m) result }
+    {
+        let RegisterContent::Edge(x) = registers::get(self.registers, a) else {
+            return Answer::No(Refusal::Empty);
+        };
+        self.lows(d, x, m)
+    }
+
+    fn drop_register(&mut self, a: RegisterNumber) -> Answer
+        requires { IsEngine self.old × InRange (call.Drop a) }
+        ensures loans { KeepsLoans self.old.diagram self.new.diagram }
+        ensures responds { Responds self.old self.new (call.Drop a) result }
+    {
+        let RegisterContent::Edge(_) = registers::get(self.registers, a) else {
+            return Answer::No(Refusal::Empty);
+        };
+        self.registers = registers::clear(self.registers, a);
+        Answer::Ok(self.diagram.state.count)
+    }
+
+    fn collect(&mut self) -> Answer
+        requires { IsEngine self.old }
+        ensures loans { KeepsLoans self.old.diagram self.new.diagram }
+        ensures responds { Responds self.old self.new call.Collect result }
+    {
+        self.registers = self.diagram.collect(self.registers);
+        Answer::Ok(self.diagram.state.count)
+    }
+
+    fn at(&self, a: RegisterNumber, v: Assignment) -> Answer
+        requires { IsEngine self.now × InRange (call.At a v) }
+        ensures { Responds self.now self.now (call.At a v) result }
+    {
+        let RegisterContent::Edge(x) = registers::get(self.registers, a) else {
+            return Answer::No(Refusal::Empty);
+        };
+        let w = self.diagram.value(x, v as u64);
+        Answer::Value(w as usize)
+    }
+
+    pub(crate) fn cmp(&self, a: RegisterNumber, b: RegisterNumber) -> Answer
+        requires { IsEngine self.now × InRange (call.Cmp a b) }
+        ensures { Responds self.now self.now (call.Cmp a b) result }
+    {
+        let RegisterContent::Edge(x) = registers::get(self.registers, a) else {
+            return Answer::No(Refusal::Empty);
+        };
+        let RegisterContent::Edge(y) = registers::get(self.registers, b) else {
+            return Answer::No(Refusal::Empty);
+        };
+        comparison(compare::compare(x, y))
+    }
+
+    fn on(&self, a: RegisterNumber) -> Answer
+        requires { IsEngine self.now × InRange (call.On a) }
+        ensures { Responds self.now self.now (call.On a) result }
+    {
+        let RegisterContent::Edge(x) = registers::get(self.registers, a) else {
+            return Answer::No(Refusal::Empty);
+        };
+        let m = self.diagram.support(x);
+        Answer::Mask(m as usize)
+    }
+
+    pub(crate) fn respond(&mut self, call: Call) -> Answer
+        requires { IsEngine self.old × InRange call }
+        ensures loans { KeepsLoans self.old.diagram self.new.diagram }
+        ensures responds { Responds self.old self.new call result }
+    {
+        match call {
+            Call::Put(d, w) => self.put(d, w),
+            Call::Gate(d, g) => self.gate(d, g),
+            Call::Unit(d, n) => self.unit(d, n),
+            Call::Add(d, a, b) => self.respond_add(d, a, b),
+            Call::Cont(d, a, b, m) => self.respond_cont(d, a, b, m),
+            Call::Low(d, a, k) => self.respond_low(d, a, k),
+            Call::Drop(a) => self.drop_register(a),
+            Call::Collect => self.collect(),
+            Call::At(a, v) => self.at(a, v),
+            Call::Cmp(a, b) => self.cmp(a, b),
+            Call::On(a) => self.on(a),
+            Call::Lows(d, a, m) => self.respond_lows(d, a, m),
+            Call::Refused(r) => Answer::No(r),
+        }
     }
 }
