@@ -1,11 +1,12 @@
 // Moves the marked nodes down. Field 5 of a node's record holds its mark, and once it has moved its new number.
-ghost use Rattle.std.specs.Prelude.{◌≡◌, ◌≢◌, ◌+◌, ◌*◌, ◌-◌, ◌≤◌, ◌<◌, length};
+ghost use Rattle.std.specs.Prelude.{◌≡◌, ◌≢◌, ◌+◌, ◌*◌, ◌-◌, ◌≤◌, ◌<◌, length, Some};
 ghost use Rattle.diagram.specs.Fields.{field};
 ghost use Rattle.diagram.specs.Node.{NodeFits, RecordWithin, node_at};
 ghost use Rattle.diagram.specs.Compact.{ChildrenWithin, MarksClosed, forward as forwarded, shift_node};
 ghost use Rattle.diagram.specs.Compact.{renumber_node, CompactStepEnsures, CompactEnsures, renumber_register};
 ghost use Rattle.diagram.specs.Compact.{renumber_registers};
 ghost use Rattle.diagram.specs.Registers.{RegistersValid};
+ghost use Rattle.diagram.specs.declared.node.Edge as edge;
 
 use crate::node::{Edge, Node, NodeCount, NodeNumber};
 use crate::registers::{Register, Registers};
@@ -78,19 +79,14 @@ pub(crate) fn compact(s: &mut [u8], count: NodeCount) -> NodeCount
 }
 
 // A register with its node's new number.
+#[tactic(auto, unfolding(crate::specs::Compact::renumber_register))]
 fn moved(s: &[u8], r: Register) -> Register
-    requires { r.filled ≡ 1 → 16 * r.edge.node ≤ length s.now }
+    requires { (e : edge.Edge) → r ≡ Some e → 16 * e.node ≤ length s.now }
     ensures { result ≡ renumber_register (forwarded s.now) r }
 {
-    if r.filled == 1 {
-        let weight = r.edge.weight;
-        let node = forward(s, r.edge.node);
-        return Register {
-            filled: 1,
-            edge: Edge { weight, node },
-        };
-    }
-    r
+    let Edge { weight, node } = r?;
+    let node = forward(s, node);
+    Some(Edge { weight, node })
 }
 
 // The registers with their nodes' new numbers.
@@ -99,12 +95,8 @@ pub(crate) fn renumber(s: &[u8], count: NodeCount, registers: Registers) -> Regi
     ensures { result.all ≡ renumber_registers (forwarded s.now) registers.all }
 {
     let mut out = registers;
-    let mut i = 0;
-    while i < 16 {
-        let r = out.all[i];
-        let x = moved(s, r);
-        out.all[i] = x;
-        i += 1;
+    for i in 0..16 {
+        out.all[i] = moved(s, out.all[i]);
     }
     out
 }

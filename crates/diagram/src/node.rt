@@ -30,6 +30,11 @@ pub struct Edge {
     pub node: NodeNumber,
 }
 
+impl Edge {
+    // "Zero is weight 0 at node 0."
+    pub const ZERO: Edge = Edge { weight: 0, node: 0 };
+}
+
 #[derive(Clone, Copy)]
 pub struct Node {
     pub index: Index,

@@ -10,7 +10,7 @@ use crate::call::Refusal;
 use diagram::join::Outcome;
 use diagram::make::State;
 use diagram::registers::{RegisterNumber, Registers};
-use diagram::{registers, restore};
+use diagram::restore;
 
 // The nodes are in the store; this is the rest.
 #[derive(Clone, Copy)]
@@ -31,7 +31,7 @@ pub fn start(store: &mut [u8], cache: &mut [u64]) -> Engine
     ensures { EngineStartEnsures cache.new store.new result }
 {
     let state = restore::start(store, cache);
-    let registers = registers::empty();
+    let registers = Registers::empty();
     Engine { state, registers }
 }
 
@@ -69,7 +69,8 @@ pub(crate) fn settle(
     let Outcome::Edge(e, state) = outcome else {
         return refuse_full(store, cache, engine);
     };
-    let registers = registers::put(engine.registers, d, e);
+    let mut registers = engine.registers;
+    registers.put(d, e);
     let answer = Answer::Ok(state.count);
     let engine = Engine { state, registers };
     Reply { answer, engine }

@@ -16,8 +16,8 @@ use crate::limits::{Assignment, Mask};
 use crate::{engine, operate};
 use diagram::compare::Comparison;
 use diagram::node::Index;
-use diagram::registers::{RegisterContent, RegisterNumber};
-use diagram::{collect, compare, registers, support, value};
+use diagram::registers::RegisterNumber;
+use diagram::{collect, compare, support, value};
 
 fn add(
     store: &mut [u8],
@@ -31,10 +31,10 @@ fn add(
     ensures { RespondEnsures cache.new store.old store.new engine
         (call.Add d a b) result }
 {
-    let RegisterContent::Edge(x) = registers::get(engine.registers, a) else {
+    let Some(x) = engine.registers.get(a) else {
         return engine::refuse(engine, Refusal::Empty);
     };
-    let RegisterContent::Edge(y) = registers::get(engine.registers, b) else {
+    let Some(y) = engine.registers.get(b) else {
         return engine::refuse(engine, Refusal::Empty);
     };
     operate::add(store, cache, engine, d, x, y)
@@ -53,10 +53,10 @@ fn cont(
     ensures { RespondEnsures cache.new store.old store.new engine
         (call.Cont d a b m) result }
 {
-    let RegisterContent::Edge(x) = registers::get(engine.registers, a) else {
+    let Some(x) = engine.registers.get(a) else {
         return engine::refuse(engine, Refusal::Empty);
     };
-    let RegisterContent::Edge(y) = registers::get(engine.registers, b) else {
+    let Some(y) = engine.registers.get(b) else {
         return engine::refuse(engine, Refusal::Empty);
     };
     operate::cont(store, cache, engine, d, x, y, m)
@@ -74,7 +74,7 @@ fn low(
     ensures { RespondEnsures cache.new store.old store.new engine
         (call.Low d a k) result }
 {
-    let RegisterContent::Edge(x) = registers::get(engine.registers, a) else {
+    let Some(x) = engine.registers.get(a) else {
         return engine::refuse(engine, Refusal::Empty);
     };
     operate::low(store, cache, engine, d, x, k)
@@ -84,12 +84,13 @@ fn drop(engine: Engine, a: RegisterNumber) -> Reply
     requires { InRange (call.Drop a) }
     ensures { PureEnsures engine (call.Drop a) result }
 {
-    let RegisterContent::Edge(_) = registers::get(engine.registers, a) else {
+    let Some(_) = engine.registers.get(a) else {
         return engine::refuse(engine, Refusal::Empty);
     };
     let state = engine.state;
     let answer = Answer::Ok(state.count);
-    let registers = registers::clear(engine.registers, a);
+    let mut registers = engine.registers;
+    registers.clear(a);
     let engine = Engine { state, registers };
     Reply { answer, engine }
 }
@@ -112,7 +113,7 @@ fn at(store: &[u8], engine: Engine, a: RegisterNumber, v: Assignment) -> Reply
         (RegistersValid engine.state.count engine.registers.all × InRange (call.At a v)) }
     ensures { ReadEnsures store.now engine (call.At a v) result }
 {
-    let RegisterContent::Edge(x) = registers::get(engine.registers, a) else {
+    let Some(x) = engine.registers.get(a) else {
         return engine::refuse(engine, Refusal::Empty);
     };
     let w = value::value(store, engine.state, x, v as u64);
@@ -134,10 +135,10 @@ pub(crate) fn cmp(engine: Engine, a: RegisterNumber, b: RegisterNumber) -> Reply
     requires { RegistersValid engine.state.count engine.registers.all × InRange (call.Cmp a b) }
     ensures { PureEnsures engine (call.Cmp a b) result }
 {
-    let RegisterContent::Edge(x) = registers::get(engine.registers, a) else {
+    let Some(x) = engine.registers.get(a) else {
         return engine::refuse(engine, Refusal::Empty);
     };
-    let RegisterContent::Edge(y) = registers::get(engine.registers, b) else {
+    let Some(y) = engine.registers.get(b) else {
         return engine::refuse(engine, Refusal::Empty);
     };
     let answer = comparison(compare::compare(x, y));
@@ -149,7 +150,7 @@ fn on(store: &[u8], engine: Engine, a: RegisterNumber) -> Reply
         (RegistersValid engine.state.count engine.registers.all × InRange (call.On a)) }
     ensures { ReadEnsures store.now engine (call.On a) result }
 {
-    let RegisterContent::Edge(x) = registers::get(engine.registers, a) else {
+    let Some(x) = engine.registers.get(a) else {
         return engine::refuse(engine, Refusal::Empty);
     };
     let m = support::support(store, engine.state, x);
@@ -169,7 +170,7 @@ fn lows(
     ensures { RespondEnsures cache.new store.old store.new engine
         (call.Lows d a m) result }
 {
-    let RegisterContent::Edge(x) = registers::get(engine.registers, a) else {
+    let Some(x) = engine.registers.get(a) else {
         return engine::refuse(engine, Refusal::Empty);
     };
     operate::lows(store, cache, engine, d, x, m)
