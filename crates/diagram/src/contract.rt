@@ -8,7 +8,7 @@ ghost use Rattle.diagram.specs.Join.{JoinRequires};
 ghost use Rattle.diagram.specs.Operation.{OperationRequires, RefinesCached, HighRequires, high_step};
 ghost use Rattle.diagram.specs.Contract.{ContractReduced, FactoredEnsures, cont_without, combine};
 
-use crate::cache::{Key, LookupResult, Op};
+use crate::cache::{Key, Op};
 use crate::join::Outcome;
 use crate::make::State;
 use crate::node::{Edge, Index, Mask, Weight};
@@ -86,7 +86,7 @@ fn contract_cached(
         right,
         arg: m,
     };
-    if let LookupResult::Hit(e) = cache::lookup(cache, epoch, key) {
+    if let Some(e) = cache::lookup(cache, epoch, key) {
         return Outcome::Edge(e, s);
     }
     let outcome = contract_split(store, cache, s, a, b, m);

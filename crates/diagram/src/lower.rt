@@ -8,7 +8,7 @@ ghost use Rattle.diagram.specs.Store.{Sound, tensor_of};
 ghost use Rattle.diagram.specs.Operation.{OperationRequires, RefinesCached, HighRequires, high_step};
 ghost use Rattle.diagram.specs.Lower.{LowerRequires, LowsRequires, LowsReduced, lows_first};
 
-use crate::cache::{Key, LookupResult, Op};
+use crate::cache::{Key, Op};
 use crate::join::Outcome;
 use crate::make::State;
 use crate::node::{Edge, Index, Mask};
@@ -70,7 +70,7 @@ fn lows_cached(store: &mut [u8], cache: &mut [u64], s: State, a: Edge, m: Mask) 
         right: n,
         arg: m,
     };
-    if let LookupResult::Hit(e) = cache::lookup(cache, epoch, key) {
+    if let Some(e) = cache::lookup(cache, epoch, key) {
         return Outcome::Edge(e, s);
     }
     let outcome = lows_split(store, cache, s, a, m);

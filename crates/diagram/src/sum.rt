@@ -4,7 +4,7 @@ ghost use Rattle.diagram.specs.Store.{tensor_of};
 ghost use Rattle.diagram.specs.Operation.{OperationRequires, RefinesCached, HighRequires, high_step};
 ghost use Rattle.diagram.specs.Sum.{SumReduced};
 
-use crate::cache::{Key, LookupResult, Op};
+use crate::cache::{Key, Op};
 use crate::join::Outcome;
 use crate::make::State;
 use crate::node::{Edge, Index};
@@ -57,7 +57,7 @@ fn sum_cached(store: &mut [u8], cache: &mut [u64], s: State, a: Edge, b: Edge) -
         right,
         arg,
     };
-    if let LookupResult::Hit(e) = cache::lookup(cache, epoch, key) {
+    if let Some(e) = cache::lookup(cache, epoch, key) {
         return Outcome::Edge(e, s);
     }
     let outcome = sum_split(store, cache, s, a, b);

@@ -63,11 +63,11 @@ contract-returns t c =
 pub contract_cached-lookup-requires : goal.contract_cached-lookup-requires
 contract_cached-lookup-requires t c = search (rules, contract_key_fits)
 
-pub contract_cached-returns-in-Hit : goal.contract_cached-returns-in-Hit
-contract_cached-returns-in-Hit t c =
+pub contract_cached-returns-in-Some : goal.contract_cached-returns-in-Some
+contract_cached-returns-in-Some t c =
     let pre = c.requires in
     cached_hit pre.0 (contract_key_step pre.0 pre.1)
-    (lookup_is _ c.lookup.ensures c.in-Hit.is)
+    (lookup_is _ c.lookup.ensures c.in-Some.is)
 
 pub contract_cached-keep-requires : goal.contract_cached-keep-requires
 contract_cached-keep-requires t c = search (rules, contract_key_fits, cached_fits)

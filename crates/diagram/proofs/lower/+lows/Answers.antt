@@ -36,11 +36,11 @@ lows-returns t c =
 pub lows_cached-lookup-requires : goal.lows_cached-lookup-requires
 lows_cached-lookup-requires t c = search (rules, lows_key_fits)
 
-pub lows_cached-returns-in-Hit : goal.lows_cached-returns-in-Hit
-lows_cached-returns-in-Hit t c =
+pub lows_cached-returns-in-Some : goal.lows_cached-returns-in-Some
+lows_cached-returns-in-Some t c =
     let pre = c.requires in
     cached_hit pre.0 (lows_key_step pre.0 pre.1)
-    (lookup_is _ c.lookup.ensures c.in-Hit.is)
+    (lookup_is _ c.lookup.ensures c.in-Some.is)
 
 pub lows_cached-keep-requires : goal.lows_cached-keep-requires
 lows_cached-keep-requires t c = search (rules, lows_key_fits, cached_fits)

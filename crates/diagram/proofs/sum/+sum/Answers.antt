@@ -44,10 +44,10 @@ sum-returns t c =
 pub sum_cached-lookup-requires : goal.sum_cached-lookup-requires
 sum_cached-lookup-requires t c = search (rules, sum_key_fits)
 
-pub sum_cached-returns-in-Hit : goal.sum_cached-returns-in-Hit
-sum_cached-returns-in-Hit t c =
+pub sum_cached-returns-in-Some : goal.sum_cached-returns-in-Some
+sum_cached-returns-in-Some t c =
     cached_hit c.requires.0 (sum_key_step c.requires.0 c.requires.1)
-    (lookup_is _ c.lookup.ensures c.in-Hit.is)
+    (lookup_is _ c.lookup.ensures c.in-Some.is)
 
 pub sum_cached-keep-requires : goal.sum_cached-keep-requires
 sum_cached-keep-requires t c = search (rules, sum_key_fits, cached_fits)
