@@ -64,11 +64,6 @@ head_at s b = field s 4 b
 abbrev pub next_at : List ℕ → ℕ → ℕ
 next_at s n = field s 5 (n - 1)
 
--- the answer to "is it so that P?"
-abbrev pub Decides : Type 0 → Bool → Type 0
-Decides P true = P
-Decides P false = P → ⊥
-
 -- the nodes 1 .. m as a list
 unfoldable pub listed : (ℕ → Node) → ℕ → List Node
 listed f zero = []

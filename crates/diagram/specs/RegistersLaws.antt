@@ -3,6 +3,7 @@ use Rattle.std.specs.Prelude.{◌≡◌, refl, true, false, List, [], ◌∷◌,
 use Rattle.std.specs.Prelude.{get_or, set, Some, None}
 use Rattle.std.proofs.Common.{ap, ap₂, sym, subst, ◌∙◌, length-set}
 use Rattle.std.proofs.lemmas.Bool.{false≢true}
+use Rattle.std.proofs.lemmas.Option.{none-some}
 use Rattle.std.proofs.Math.Option.{none, some}
 use Rattle.diagram.specs.Tally.{Set, filled_tensors}
 use Rattle.diagram.specs.Sets.{PrefixOf}
@@ -39,8 +40,8 @@ edges_append (Some e ∷ rs) ss = ap (λ l. e ∷ l) (edges_append rs ss)
 pub edge_valid : (count : ℕ) (rs : List Register) (i : ℕ) {e : Edge} → AllValid count (edges_of rs)
     → get_or rs i empty_register ≡ Some e → Valid count e
 unfolding edges_of
-edge_valid count [] i v q = absurd (false≢true (ap occupied q))
-edge_valid count (None ∷ rs) zero v q = absurd (false≢true (ap occupied q))
+edge_valid count [] i {e} v q = absurd (none-some e q)
+edge_valid count (None ∷ rs) zero {e} v q = absurd (none-some e q)
 edge_valid count (Some x ∷ rs) zero v q = subst (Valid count) (ap edge_of q) v.0
 edge_valid count (None ∷ rs) (suc i) v q = edge_valid count rs i v q
 edge_valid count (Some x ∷ rs) (suc i) v q = edge_valid count rs i v.1 q

@@ -8,7 +8,7 @@ ghost use Rattle.diagram.specs.Join.{NodeMaskEnsures, JoinRequires};
 
 use crate::make::{Slot, State};
 use crate::node::{Edge, Index, Mask};
-use crate::{make, mask, node, normalise, support};
+use crate::{make, mask, normalise, support};
 
 // An edge to the result, and the state then; or the nodes would be more than the store holds.
 #[derive(Clone, Copy)]
@@ -34,7 +34,7 @@ pub fn join(store: &mut [u8], s: State, k: Index, l: Edge, h: Edge) -> Outcome
     ensures { Refines store.old store.new s
         (joins k (tensor_of store.old s l) (tensor_of store.old s h)) result }
 {
-    if node::same_edge(l, h) {
+    if l == h {
         return Outcome::Edge(l, s);
     }
     let mask = node_mask(store, s, k, l, h);

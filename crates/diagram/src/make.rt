@@ -34,9 +34,8 @@ pub(crate) fn make(s: &mut [u8], state: State, x: Node) -> Slot
     }
     let count = state.count;
     let buckets = state.buckets;
-    let r = table::find(s, count, buckets, x);
-    if r != 0 {
-        return Slot::At(r, state);
+    if let Some(n) = table::find(s, count, buckets, x) {
+        return Slot::At(n, state);
     }
     if room <= count {
         return Slot::Full;

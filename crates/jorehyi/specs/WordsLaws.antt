@@ -1,6 +1,7 @@
 -- Laws of results as words: an empty register's words, and words put one after the other.
 use mir.Val.{bool_byte}
-use Rattle.std.specs.Prelude.{Bool, true, ◌≡◌, refl, false, cond, List, [], ◌∷◌, ℕ, zero, suc, ◌+◌, ◌*◌, ◌≤◌, ◌<◌, get_or}
+use Rattle.std.specs.Prelude.{◌≡◌, refl, Bool, true, false, cond, List, [], ◌∷◌, ℕ, zero, suc, ◌+◌, ◌*◌, ◌≤◌, ◌<◌}
+use Rattle.std.specs.Prelude.{get_or}
 use Rattle.std.proofs.Common.{ap, sym, ◌∙◌, add-one, arith, length-append}
 use Rattle.std.proofs.Math.ListN.{length}
 use Rattle.diagram.specs.Tensor.{indices}

@@ -3,8 +3,8 @@ use Rattle.diagram.specs.JoinLaws.{join_equal, normalise_allowed, join_full, joi
 use borrow.Author.Rules.{rules}
 use Rattle.diagram.proofs.join.join.Goals as goal
 
-pub returns-then-same_edge : goal.returns-then-same_edge
-returns-then-same_edge c = search (rules, join_equal)
+pub returns-then-eq : goal.returns-then-eq
+returns-then-eq c = search (rules, join_equal)
 
 pub normalise-x-requires : goal.normalise-x-requires
 normalise-x-requires c = search (rules, normalise_allowed)

@@ -6,11 +6,11 @@ use Rattle.diagram.proofs.make.make.Goals as goal
 pub returns-then-room-eq0 : goal.returns-then-room-eq0
 returns-then-room-eq0 c = search (rules, make_none)
 
-pub find-r-requires : goal.find-r-requires
-find-r-requires c = search (rules, state_sound_table)
+pub find-requires : goal.find-requires
+find-requires c = search (rules, state_sound_table)
 
-pub returns-then-r-ne0 : goal.returns-then-r-ne0
-returns-then-r-ne0 c = search (rules, make_old)
+pub returns-in-Some : goal.returns-in-Some
+returns-in-Some c = search (rules, make_old)
 
 pub returns-then-room-count : goal.returns-then-room-count
 returns-then-room-count c = search (rules, make_no_room)
