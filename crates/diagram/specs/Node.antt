@@ -4,7 +4,7 @@
 --   field 1   low node             field 2   high weight % 65536          field 3   high node
 --   field 4   the unique table's head of bucket n - 1                     field 5   the next node of n's chain
 --   field 6   mask % 65536         field 7   mask / 65536
-use Rattle.std.specs.Prelude.{List, [], ◌∷◌, ◌++◌, Bool, true, false, ℕ, ◌+◌, ◌*◌, ◌/◌, ◌%◌, ◌≤◌, ◌<◌, ◌-◌, min, zero}
+use Rattle.std.specs.Prelude.{List, [], ◌∷◌, ◌++◌, ℕ, ◌+◌, ◌*◌, ◌/◌, ◌%◌, ◌≤◌, ◌<◌, ◌-◌, min, zero}
 use Rattle.std.specs.Prelude.{suc, length}
 use Rattle.diagram.specs.Fields.{field, put_field}
 use Rattle.diagram.specs.declared.node.Node.{Node}

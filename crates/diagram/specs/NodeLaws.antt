@@ -1,6 +1,6 @@
 -- Laws of nodes' records: reading back, what a write leaves alone, nodes as a list, equality decided field by field.
 use Rattle.std.specs.Prelude.{◌≡◌, refl, ◌≢◌, Bool, eqb, ◌&&◌, get_or}
-use Rattle.std.proofs.Common.{ap, ◌∙◌, subst, ap₂, sym, arith, add-one, length-append, eqb-true}
+use Rattle.std.proofs.Common.{ap, ◌∙◌, subst, ap₂, sym, arith, add-one, length-append}
 use Rattle.std.proofs.Math.Path.{fun_ext}
 use mathlib.Core.List.{List, [], ◌∷◌, ◌++◌}
 use Prim.Native.Nat.{ℕ, ◌/◌, ◌%◌, ◌≤◌, ◌<◌, ◌-◌, zero, suc, ◌+◌}
@@ -15,7 +15,6 @@ use Rattle.diagram.specs.Node.{NodeFits, RecordWithin, put_node, decode, packed_
 use Rattle.diagram.specs.Node.{listed}
 use Rattle.diagram.specs.Sets.{PrefixOf}
 use Rattle.diagram.specs.SetsLaws.{prefix_refl, prefix_trans}
-use Rattle.diagram.specs.TestLaws.{cases}
 use Rattle.diagram.specs.declared.node.Node.{Node}
 use Rattle.diagram.specs.declared.node.Edge.{Edge}
 

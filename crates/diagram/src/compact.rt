@@ -69,11 +69,9 @@ pub(crate) fn compact(s: &mut [u8], count: NodeCount) -> NodeCount
         (node_at s.old) count) }
     ensures { CompactEnsures s.old s.new count result }
 {
-    let mut m = 0;
-    let mut k: NodeCount = 0;
-    while m < count {
+    let mut k = 0;
+    for m in 0..count {
         k = compact_step(s, count, m, k);
-        m += 1;
     }
     k
 }

@@ -42,10 +42,8 @@ fn spread(s: &mut [u8], count: NodeCount)
     requires { (16 * count ≤ length s.old) × ChildrenBefore (node_at s.old) count }
     ensures { SpreadEnsures s.old s.new count }
 {
-    let mut n = count;
-    while 0 < n {
-        mark_children(s, count, n);
-        n -= 1;
+    for n in (0..count).rev() {
+        mark_children(s, count, n + 1);
     }
 }
 
@@ -54,10 +52,8 @@ fn unmark(s: &mut [u8], count: NodeCount)
     requires { 16 * count ≤ length s.old }
     ensures { NoneMarked s.old s.new count }
 {
-    let mut m = 0;
-    while m < count {
+    for m in 0..count {
         fields::set(s, 5, m, 0);
-        m += 1;
     }
 }
 

@@ -1,7 +1,5 @@
-use mathlib.Core.Path.{◌≡◌}
-use lib.ListN.{length}
 use Rattle.diagram.specs.Mark.{RootsLoop}
 use Rattle.diagram.proofs.mark.roots.Given as goal
 
 abbrev pub invariant-loop-r : goal.invariant-loop-r
-invariant-loop-r l = RootsLoop l.count l.r-items l.initial.s l.s l.r-index × (length l.s ≡ length l.initial.s)
+invariant-loop-r l = RootsLoop l.count l.r-items l.initial.s l.s l.r-index
