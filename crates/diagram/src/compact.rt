@@ -88,13 +88,12 @@ fn moved(s: &[u8], r: Register) -> Register
 }
 
 // The registers with their nodes' new numbers.
-pub(crate) fn renumber(s: &[u8], count: NodeCount, registers: Registers) -> Registers
+pub(crate) fn renumber(s: &[u8], count: NodeCount, mut registers: Registers) -> Registers
     requires { (16 * count ≤ length s.now) × RegistersValid count registers.all }
     ensures { result.all ≡ renumber_registers (forwarded s.now) registers.all }
 {
-    let mut out = registers;
-    for i in 0..16 {
-        out.all[i] = moved(s, out.all[i]);
+    for r in registers.all.iter_mut() {
+        *r = moved(s, *r);
     }
-    out
+    registers
 }
