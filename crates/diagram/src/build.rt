@@ -11,7 +11,7 @@ use crate::gate::{Gate, Qubit};
 use crate::join::Outcome;
 use crate::make::State;
 use crate::node::{Assignment, Edge, INDICES, Index};
-use crate::{entry, gate, join};
+use crate::{entry, join};
 
 // v with bit k set.
 fn with_bit(v: Assignment, k: Index) -> Assignment
@@ -46,8 +46,8 @@ fn next_used(g: Gate, k: Index) -> Index
     requires { QubitsInRange g × (k ≤ index_count) }
     ensures { NoneUsed g k result }
 {
-    let a = gate::first_qubit(g);
-    let b = gate::second_qubit(g);
+    let a = g.first_qubit();
+    let b = g.second_qubit();
     if a < b {
         owned(a, b, k)
     } else {

@@ -32,7 +32,7 @@ pub fn contract(store: &mut [u8], cache: &mut [u64], s: State, a: Edge, b: Edge,
 {
     let v = a.weight;
     let w = b.weight;
-    let zero = Edge { weight: 0, node: 0 };
+    let zero = Edge::ZERO;
     if v == 0 {
         return Outcome::Edge(zero, s);
     }

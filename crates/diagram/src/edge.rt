@@ -44,7 +44,7 @@ pub(crate) fn added(a: Edge, b: Edge) -> Edge
     let n = a.node;
     let p = field::add(v, w);
     if p == 0 {
-        return Edge { weight: 0, node: 0 };
+        return Edge::ZERO;
     }
     Edge { weight: p, node: n }
 }

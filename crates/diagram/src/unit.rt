@@ -18,7 +18,7 @@ fn onto(store: &mut [u8], s: State, q: Qubit, e: Edge) -> Outcome
     ensures { Refines store.old store.new s
         (build (onto_of q (tensor_of store.old s e))) result }
 {
-    let zero = Edge { weight: 0, node: 0 };
+    let zero = Edge::ZERO;
     let Outcome::Edge(a, t) = join::join(store, s, 3 * q + 1, e, zero) else {
         return Outcome::Full;
     };
