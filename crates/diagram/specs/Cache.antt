@@ -1,6 +1,6 @@
 -- The operation cache (document 01, "Results may be remembered."): what its words claim, and that every claim of the
 -- epoch is stable.
-use Rattle.std.specs.Prelude.{◌≡◌, ◌⊎◌, List, ℕ, ◌+◌, ◌*◌, ◌≤◌, ◌<◌, length, get_or, set}
+use Rattle.std.specs.Prelude.{◌≡◌, ◌⊎◌, List, ℕ, ◌+◌, ◌*◌, ◌≤◌, ◌<◌, length, get_or, set, Option, Some, None}
 use Rattle.field.specs.Weight.{modulus, to_weight}
 use Rattle.diagram.specs.Tensor.{Tensor, scale, bits, indices, masks}
 use Rattle.diagram.specs.Tally.{Step, sum, cont}
@@ -13,8 +13,6 @@ use Rattle.diagram.specs.declared.make.State.{State}
 use Rattle.diagram.specs.declared.cache.Key.{Key}
 use Rattle.diagram.specs.declared.cache.Op.{Op}
 use Rattle.diagram.specs.declared.cache.Op.TheVariants.{Sum, Contract, Lows}
-use Rattle.diagram.specs.declared.cache.LookupResult.{LookupResult}
-use Rattle.diagram.specs.declared.cache.LookupResult.TheVariants.{Hit, Miss}
 
 -- the words of an entry
 
@@ -48,10 +46,10 @@ pub record HasEntry (c : List ℕ) (epoch : ℕ) (k : Key) (e : Edge) : Type 0 w
   pub when : get_or c (4 * slot + 2) 0 ≡ epoch
   pub result : get_or c (4 * slot + 3) 0 ≡ e.weight * 65536 + e.node
 
--- a lookup that hits has found such an entry; one that misses says nothing
-abbrev pub LookupEnsures : List ℕ → ℕ → Key → LookupResult → Type 0
-LookupEnsures c epoch k (Hit e) = HasEntry c epoch k e
-LookupEnsures c epoch k Miss = Unit {0}
+-- a lookup that answers has found such an entry; one that does not says nothing
+abbrev pub LookupEnsures : List ℕ → ℕ → Key → Option Edge → Type 0
+LookupEnsures c epoch k (Some e) = HasEntry c epoch k e
+LookupEnsures c epoch k None = Unit {0}
 
 pub record SameEntry (epoch : ℕ) (k : Key) (e : Edge) (epoch' : ℕ) (k' : Key) (e' : Edge) : Type 0 where
   pub when : epoch' ≡ epoch
@@ -103,8 +101,3 @@ pub record Remembers (c s : List ℕ) (st : State) : Type 0 where
 -- c with the entry i of these words
 unfoldable pub with_entry : List ℕ → ℕ → ℕ → ℕ → ℕ → ℕ → List ℕ
 with_entry c i k r t v = set (set (set (set c (4 * i) k) (4 * i + 1) r) (4 * i + 2) t) (4 * i + 3) v
-
--- clearing: the first i words are 0
-pub record ClearLoop (c₀ c : List ℕ) (i : ℕ) : Type 0 where
-  pub long : length c ≡ length c₀
-  pub is : (j : ℕ) → j < i → get_or c j 0 ≡ 0

@@ -1,8 +1,8 @@
 -- Laws of the operation cache: epochs, what is remembered as nodes are added, an entry written, an entry found.
-use Rattle.std.specs.Prelude.{◌≡◌, refl, ◌⊎◌, ◌≢◌, List, ℕ, ◌+◌, ◌*◌, ◌≤◌, ◌-◌, ◌/◌, ◌%◌, ◌<◌, length, get_or, set}
+use Rattle.std.specs.Prelude.{◌≡◌, refl, ◌⊎◌, ◌≢◌, List, ℕ, ◌+◌, ◌*◌, ◌≤◌, ◌/◌, ◌%◌, ◌<◌, length, get_or, set, Option, Some}
 use Rattle.std.proofs.Common.{ap, sym, subst, ◌∙◌, inl, inr, arith}
 use Rattle.std.proofs.Math.Decide.{ℕ_discrete}
-use Rattle.std.proofs.Math.ListN.{length-set, get_or-eq_default}
+use Rattle.std.proofs.Math.ListN.{length-set}
 use Rattle.std.proofs.Math.Seq.{get_or-set_same, get_or-set_other}
 use Rattle.diagram.specs.Sets.{PrefixOf}
 use Rattle.diagram.specs.TallyStepLaws.{writes_stable}
@@ -11,17 +11,15 @@ use Rattle.diagram.specs.Store.{nodes_of, set_of, tensor_of}
 use Rattle.diagram.specs.StoreLaws.{set_length, sets_prefix, tensor_kept}
 use Rattle.diagram.specs.Cache.{SameEntry, AllEarlier, AllZero, Remembers, LookupEnsures, NoneLater}
 use Rattle.diagram.specs.Cache.{RememberEnsures, key_step, HasEntry, StableEntry, code_of, pack, KeyFits, EdgeFits}
-use Rattle.diagram.specs.Cache.{with_entry, ClearLoop}
+use Rattle.diagram.specs.Cache.{with_entry}
 use Rattle.diagram.specs.NodeLaws.{edge_eq}
 use Rattle.diagram.specs.declared.node.Edge.{Edge}
 use Rattle.diagram.specs.declared.make.State.{State}
 use Rattle.diagram.specs.declared.cache.Key.{Key}
-use Rattle.diagram.specs.declared.cache.LookupResult.{LookupResult}
-use Rattle.diagram.specs.declared.cache.LookupResult.TheVariants.{Hit}
 use Rattle.diagram.specs.declared.cache.Op.{Op}
 use Rattle.diagram.specs.declared.cache.Op.TheVariants.{Sum, Contract, Lows}
 
-pub lookup_is : {c : List ℕ} {epoch : ℕ} {k : Key} {e : Edge} (f : LookupResult) → LookupEnsures c epoch k f → f ≡ Hit e
+pub lookup_is : {c : List ℕ} {epoch : ℕ} {k : Key} {e : Edge} (f : Option Edge) → LookupEnsures c epoch k f → f ≡ Some e
     → HasEntry c epoch k e
 lookup_is {c} {epoch} {k} f l e = subst (LookupEnsures c epoch k) e l
 
@@ -196,18 +194,17 @@ module _ (c : List ℕ) (i epoch : ℕ) (k : Key) (e : Edge) (inside : 4 * i + 4
 pub remember_none : (c : List ℕ) (epoch : ℕ) (k : Key) (e : Edge) → RememberEnsures c c epoch k e
 remember_none c epoch k e = record { entries = λ epoch' k' e' h. inl h; epochs = λ i. inl refl }
 
-pub remember_written : (c : List ℕ) (i w n epoch : ℕ) (k : Key) (e : Edge) → 4 * i + 4 ≤ length c → KeyFits k
-    → EdgeFits e → w ≡ pack k → n ≡ e.node
+pub remember_written : (c : List ℕ) (i w epoch : ℕ) (k : Key) (e : Edge) → 4 * i + 4 ≤ length c → KeyFits k
+    → EdgeFits e → w ≡ pack k
     → RememberEnsures c (set (set (set (set c (4 * i) w) (4 * i + 1) k.arg) (4 * i + 2) epoch) (4 * i + 3)
-    (e.weight * 65536 + n)) epoch k e
+    (e.weight * 65536 + e.node)) epoch k e
 unfolding with_entry
-remember_written c i w n epoch k e h q f u v = rw (u, v) (kept_entered c i epoch k e h q f)
+remember_written c i w epoch k e h q f u = rw u (kept_entered c i epoch k e h q f)
 
-pub entry_found : (c : List ℕ) (i w n epoch : ℕ) (k : Key) → 4 * i + 4 ≤ length c → KeyFits k → w ≡ pack k
+pub entry_found : (c : List ℕ) (i w epoch : ℕ) (k : Key) → 4 * i + 4 ≤ length c → KeyFits k → w ≡ pack k
     → get_or c (4 * i) 0 ≡ w → get_or c (4 * i + 1) 0 ≡ k.arg → get_or c (4 * i + 2) 0 ≡ epoch
-    → n ≡ get_or c (4 * i + 3) 0 % 65536
-    → HasEntry c epoch k (record { weight = get_or c (4 * i + 3) 0 / 65536; node = n })
-entry_found c i w n epoch k h q u p p' p'' v = record {
+    → HasEntry c epoch k (record { weight = get_or c (4 * i + 3) 0 / 65536; node = get_or c (4 * i + 3) 0 % 65536 })
+entry_found c i w epoch k h q u p p' p'' = record {
   slot = i;
   inside = h;
   left = q.left;
@@ -217,24 +214,4 @@ entry_found c i w n epoch k h q u p p' p'' v = record {
   arg = p';
   when = p'';
   result = omega arith;
-}
-
-pub clear_start : (c : List ℕ) → ClearLoop c c 0
-clear_start c = record { long = refl; is = λ j p. absurd (omega arith) }
-
-pub clear_on : {c₀ c : List ℕ} {i : ℕ} → i < length c → ClearLoop c₀ c i → ClearLoop c₀ (set c i 0) (i + 1)
-clear_on {c = c} {i} p h = record {
-  long = simp length-set h.long;
-  is = λ j q. elim (ℕ_discrete j i) [
-    | yes e ↦ ap (λ k. get_or (set c i 0) k 0) e ∙ get_or-set_same c i 0 0 p
-    | no d ↦ get_or-set_other c i j 0 0 d ∙ h.is j (omega arith)
-  ];
-}
-
-pub clear_end : {c₀ c : List ℕ} {i : ℕ} → length c ≤ i → ClearLoop c₀ c i → AllZero c
-clear_end {c = c} {i} p h = record {
-  is = λ j. elim (ℕ_discrete (length c - j) 0) [
-    | yes e ↦ get_or-eq_default c 0 {n = j} (omega arith)
-    | no d ↦ h.is j (omega arith)
-  ];
 }

@@ -6,9 +6,8 @@ use Rattle.diagram.specs.Store.{set_of, Sound}
 use Rattle.diagram.specs.Cache.{NoneLater, AllEarlier}
 use Rattle.diagram.specs.Compact.{new_number, survivors, MarksClosed, renumber_registers}
 use Rattle.diagram.specs.Mark.{AllMarked}
-use Rattle.diagram.specs.Registers.{holds_all, weights_of, edges_of, RegistersValid}
+use Rattle.diagram.specs.Registers.{Register, holds_all, weights_of, edges_of, RegistersValid}
 use Rattle.diagram.specs.declared.make.State.{State}
-use Rattle.diagram.specs.declared.registers.Register.{Register}
 
 -- "a collection closes the gaps and preserves order, so freed places are used again": the nodes that the registers rs
 -- lead to have moved down, k of them; rs' are the registers with their new numbers

@@ -16,13 +16,12 @@ use Rattle.diagram.specs.CompactLaws.{new_number_none, new_number_le, forward_ze
 use Rattle.diagram.specs.Mark.{ChildrenBefore, marks_of, ReachEnsures}
 use Rattle.diagram.specs.CompactSurvivorLaws.{survived, new_number_mono}
 use Rattle.diagram.specs.MarkCollectLaws.{filtered_all, kept_marked, kept_closed, kept_roots, mark_kept}
-use Rattle.diagram.specs.Registers.{holds_all, weights_of, edges_of, RegistersValid, tensors_of}
+use Rattle.diagram.specs.Registers.{Register, holds_all, weights_of, edges_of, RegistersValid, tensors_of}
 use Rattle.diagram.specs.RegistersLaws.{filled_edges}
 use Rattle.diagram.specs.CompactRenumberLaws.{renumber_ext, renumber_weights, renumber_holds, renumber_registers_lem}
 use Rattle.diagram.specs.Collect.{CollectEnsures, CollectRequires, SweepEnsures}
 use Rattle.diagram.specs.TestLaws.{cases}
 use Rattle.diagram.specs.declared.make.State.{State}
-use Rattle.diagram.specs.declared.registers.Register.{Register}
 
 pub sweep_ensures : {count : ℕ} {rs rs' : List Register} {s s₁ s₂ : List ℕ} {k : ℕ} → RegistersValid count rs
     → ReachEnsures count (edges_of rs) s s₁ → CompactEnsures s₁ s₂ count k → rs' ≡ renumber_registers (forward s₂) rs

@@ -1,13 +1,13 @@
 -- Moving the marked nodes down. Field 5, which the table does not use meanwhile, holds a node's mark, and once the node
 -- has moved its new number.
 use Rattle.std.specs.Prelude.{◌≡◌, cond, ◌≢◌, List, [], ◌∷◌, ◌++◌, ℕ, zero, suc, ◌+◌, ◌*◌, ◌≤◌, ◌<◌, ◌-◌, length, eqb}
+use Rattle.std.specs.Prelude.{Some, None}
 use Rattle.diagram.specs.Fields.{field, put_field}
 use Rattle.diagram.specs.Node.{node_at, put_node, listed}
 use Rattle.diagram.specs.Meaning.{tensor_at, tensors}
 use Rattle.diagram.specs.Canonical.{Canonical}
-use Rattle.diagram.specs.Registers.{occupied}
+use Rattle.diagram.specs.Registers.{Register}
 use Rattle.diagram.specs.declared.node.Node.{Node}
-use Rattle.diagram.specs.declared.registers.Register.{Register}
 use Rattle.diagram.specs.declared.node.Edge.{Edge}
 
 -- how many of 1 .. m are marked; for a marked m its new number
@@ -71,10 +71,10 @@ pub record CompactEnsures (s s' : List ℕ) (count r : ℕ) : Type 0 where
   pub numbers : (n : ℕ) → 1 ≤ n → n ≤ count → field s 5 (n - 1) ≢ 0
       → field s' 5 (n - 1) ≡ new_number (λ n. field s 5 (n - 1)) n
 
--- a filled register with its node renumbered
+-- a register, where it is filled with its node renumbered
 unfoldable pub renumber_register : (ℕ → ℕ) → Register → Register
-renumber_register g r =
-    cond (occupied r) (record { filled = 1; edge = record { weight = r.edge.weight; node = g r.edge.node } }) r
+renumber_register g None = None
+renumber_register g (Some e) = Some (record { weight = e.weight; node = g e.node })
 
 unfoldable pub renumber_registers : (ℕ → ℕ) → List Register → List Register
 renumber_registers g [] = []

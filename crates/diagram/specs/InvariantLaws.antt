@@ -1,12 +1,10 @@
 -- Laws of the invariant: every call keeps it, and what a register read under it holds.
-use Rattle.std.specs.Prelude.{Bool, true, false, cond, ◌≡◌, refl, List, [], ℕ, ◌-◌, ◌≤◌, ◌<◌, get_or, set}
-use Rattle.std.specs.Prelude.{Result, Ok, Err}
-use Rattle.std.proofs.lemmas.Bool.{false≢true}
+use Rattle.std.specs.Prelude.{Bool, false, ◌≡◌, List, [], ℕ, ◌-◌, ◌≤◌, ◌<◌, get_or, set, Some, Result, Ok, Err}
 use Rattle.std.proofs.Common.{ap, sym, subst, ◌∙◌, arith}
-use Rattle.std.proofs.Math.Option.{none, some}
+use Rattle.std.proofs.Math.Option.{none}
 use Rattle.diagram.specs.Tensor.{bits, indices, depends, masks}
 use Rattle.diagram.specs.Tally.{Set, Step}
-use Rattle.diagram.specs.Meaning.{edge_in, tensors, append_tensors, Valid}
+use Rattle.diagram.specs.Meaning.{tensors, append_tensors, Valid}
 use Rattle.diagram.specs.TopFreeLaws.{depends_free}
 use Rattle.diagram.specs.Top.{Free}
 use Rattle.diagram.specs.Lower.{LowerRequires, LowsRequires}
@@ -20,28 +18,15 @@ use Rattle.diagram.specs.CacheLaws.{remembers_nothing, remembers_more}
 use Rattle.diagram.specs.Operation.{RefinesCached}
 use Rattle.diagram.specs.Restore.{StartEnsures, RollbackRequires, RollbackEnsures}
 use Rattle.diagram.specs.RestoreLaws.{rollback_of, full_rollback}
-use Rattle.diagram.specs.Registers.{occupied, empty_register, empty_registers, filled_with, held_by, GetEnsures}
+use Rattle.diagram.specs.Registers.{Register, empty_register, empty_registers, GetEnsures}
 use Rattle.diagram.specs.Registers.{RegistersValid, holds, holds_all}
 use Rattle.diagram.specs.RegistersLaws.{registers_none, registers_put, registers_clear, registers_more}
-use Rattle.diagram.specs.RegistersLaws.{register_valid, holds_at, holds_kept}
+use Rattle.diagram.specs.RegistersLaws.{edge_valid, holds_at, holds_kept}
 use Rattle.diagram.specs.Collect.{CollectRequires, CollectEnsures}
-use Rattle.diagram.specs.Invariant.{held_tensor, Invariant}
+use Rattle.diagram.specs.Invariant.{Invariant}
 use Rattle.diagram.specs.declared.node.Edge.{Edge}
-use Rattle.diagram.specs.declared.registers.RegisterContent.{RegisterContent}
-use Rattle.diagram.specs.declared.registers.RegisterContent.TheVariants as content
 use Rattle.diagram.specs.declared.make.State.{State}
 use Rattle.diagram.specs.declared.diagram.Full.{Full}
-use Rattle.diagram.specs.declared.registers.Register.{Register}
-
--- what is read from a register is an edge of the store's nodes
-
-unfoldable edge_of : RegisterContent → Edge
-edge_of (content.Edge e) = e
-edge_of content.Empty = record { weight = 0; node = 0 }
-
-unfoldable is_edge : RegisterContent → Bool
-is_edge (content.Edge e) = true
-is_edge content.Empty = false
 
 pub invariant_start : {c s s' : List ℕ} {st : State} {rs : List Register} → StartEnsures c s s' st
     → rs ≡ empty_registers
@@ -66,7 +51,7 @@ invariant_clear i p q =
 -- a register is set to the answer of a step that was done
 set_done : {c' s s' : List ℕ} {st t : State} {rs : List Register} {f : Step indices} {e : Edge} (i : ℕ)
     → RegistersValid st.count rs → RefinesEdge s s' st t f e
-    → Remembers c' s' t → {rs' : List Register} → rs' ≡ set rs i (filled_with e) → Invariant c' s' t rs'
+    → Remembers c' s' t → {rs' : List Register} → rs' ≡ set rs i (Some e) → Invariant c' s' t rs'
 set_done {t = t} i g d m q =
     rw q (record {
       sound = d.sound;
@@ -75,7 +60,7 @@ set_done {t = t} i g d m q =
     })
 
 module _ {c s s' : List ℕ} {st : State} {rs : List Register} (p : Invariant c s st rs) {f : Step indices} where
-  module _ {t : State} {e : Edge} {rs' : List Register} (i : ℕ) (put : rs' ≡ set rs i (filled_with e)) where
+  module _ {t : State} {e : Edge} {rs' : List Register} (i : ℕ) (put : rs' ≡ set rs i (Some e)) where
     pub invariant_refines : RefinesEdge s s' st t f e → Invariant c s' t rs'
     invariant_refines d =
         set_done i p.registers d (remembers_more s s' st t d.grown d.epoch (refines_count d) p.cache) put
@@ -118,26 +103,14 @@ pub invariant_collect : {c' s s' : List ℕ} {st st' : State} {rs rs' : List Reg
 invariant_collect {s' = s'} {st' = st'} r =
     record { sound = r.sound; cache = remembers_nothing s' st' r.forgotten; registers = r.registers }
 
-pub read_valid : {m : ℕ} {rs : List Register} {i : ℕ} {e : Edge} (h : RegisterContent)
-    → RegistersValid m rs → i < 16 → GetEnsures rs i h → h ≡ content.Edge e → Valid m e
-unfolding held_by edge_of is_edge
-read_valid {m} {rs} {i} {e} h g p r q = go (occupied (get_or rs i empty_register)) refl (sym q ∙ r.is)
-  where
-    go : (b : Bool) → occupied (get_or rs i empty_register) ≡ b
-        → content.Edge e ≡ cond b (content.Edge (get_or rs i empty_register).edge) content.Empty → Valid m e
-    go true f k = subst (Valid m) (sym (ap edge_of k)) (register_valid m rs i g.valid (omega (arith, g.sixteen)) f)
-    go false f k = absurd (false≢true (sym (ap is_edge k)))
+-- what is read from a register is an edge of the store's nodes
+pub read_valid : {m : ℕ} {rs : List Register} {i : ℕ} {e : Edge} (r : Register) → RegistersValid m rs
+    → GetEnsures rs i r → r ≡ Some e → Valid m e
+read_valid {m} {rs} {i} r g h q = edge_valid m rs i g.valid (sym h.is ∙ q)
 
-pub holds_read : {d : ℕ} (ts : Set d) {rs : List Register} {i : ℕ} {h : RegisterContent} → GetEnsures rs i h
-    → get_or (holds_all ts rs) i none ≡ held_tensor ts h
-unfolding held_by holds
-holds_read ts {rs} {i} {h} r =
-    holds_at ts rs i ∙ go (occupied (get_or rs i empty_register)) ∙ ap (held_tensor ts) (sym r.is)
-  where
-    go : (b : Bool) → cond b (some (edge_in ts (get_or rs i empty_register).edge)) none
-        ≡ held_tensor ts (cond b (content.Edge (get_or rs i empty_register).edge) content.Empty)
-    go true = refl
-    go false = refl
+pub holds_read : {d : ℕ} (ts : Set d) {rs : List Register} {i : ℕ} {r : Register} → GetEnsures rs i r
+    → get_or (holds_all ts rs) i none ≡ holds ts r
+holds_read ts {rs} {i} h = holds_at ts rs i ∙ ap (holds ts) (sym h.is)
 
 -- k may be renamed k - 1 in an edge that does not depend on j, which is k - 1
 pub lower_allowed : {s : List ℕ} {st : State} {e : Edge} {j k : ℕ} {r : Bool} → r ≡ depends j (tensor_of s st e)

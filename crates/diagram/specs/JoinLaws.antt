@@ -8,6 +8,7 @@ use Rattle.std.specs.Int.Bits.{bit_or}
 use Rattle.std.proofs.lemmas.Nat.{or_lt}
 use Rattle.field.specs.Weight.{modulus, to_weight, 1w, times_w, inverse_w, Nonzero}
 use Rattle.field.specs.RingLaws.{weight_injective, nonzero_weight, weight_one}
+use Rattle.std.proofs.lemmas.Bool.{false≢true}
 use Rattle.diagram.specs.Tensor.{same, is_zero, scale, first, top, fix, joined, normal, indices, indices_count}
 use Rattle.diagram.specs.Tensor.{index_count, masks}
 use Rattle.diagram.specs.TensorLaws.{scale_scale, scale_one, joined_scale, same_eq, eq_same}
@@ -17,7 +18,7 @@ use Rattle.diagram.specs.TensorScaleLaws.{same_scale, unscale, normal_scale, nor
 use Rattle.diagram.specs.TopFreeLaws.{free_below_scale, first_joined}
 use Rattle.diagram.specs.Tally.{Set, member, join, Step}
 use Rattle.diagram.specs.TallyCasesLaws.{join_present, join_new, join_same}
-use Rattle.diagram.specs.NodeLaws.{node_eq, edge_eq, decides_true, decides_false}
+use Rattle.diagram.specs.NodeLaws.{node_eq, edge_eq, same_edge, edge_told}
 use Rattle.diagram.specs.Meaning.{tensor_at, edge_in, node_tensor, tensors, node_in, Valid}
 use Rattle.diagram.specs.MeaningLaws.{valid_more, at_new, at_zero, tensors_more, tensors_length, member_node}
 use Rattle.diagram.specs.MeaningLaws.{member_none}
@@ -28,7 +29,7 @@ use Rattle.diagram.specs.Normalise.{NormaliseEnsures, NormaliseRequires}
 use Rattle.diagram.specs.NormaliseLaws.{weight_times_zero}
 use Rattle.diagram.specs.Sets.{PrefixOf}
 use Rattle.diagram.specs.SetsLaws.{prefix_refl}
-use Rattle.diagram.specs.Node.{node_at, Decides}
+use Rattle.diagram.specs.Node.{node_at}
 use Rattle.diagram.specs.Table.{Absent}
 use Rattle.diagram.specs.Make.{MakeAt, MakeFull, FoundOrAdded, old, new}
 use Rattle.diagram.specs.Store.{nodes_of, set_of, tensor_of, Sound, RefinesEdge, RefinesFull}
@@ -203,18 +204,18 @@ node_mask_ensures {k = k} {low = low} {high} p o m n =
     }
 
 module _ {s : List ℕ} {st : State} {k : ℕ} {l h : Edge} (held : Sound s st) (j : JoinRequires s st k l h) (b : Bool)
-    (told : Decides (l ≡ h) b) where
+    (told : b ≡ same_edge l h) where
   -- the step that is done
   abbrev does : Step indices
   does = join k (tensor_of s st l) (tensor_of s st h)
 
   -- equal edges give the edge back
   pub join_equal : b ≡ true → RefinesEdge s s st st (join k (tensor_of s st l) (tensor_of s st h)) l
-  join_equal e = refines_stays held j.low (join_same k _ _ _ (eq_same (ap (tensor_of s st) (decides_true b told e))))
+  join_equal e = refines_stays held j.low (join_same k _ _ _ (eq_same (ap (tensor_of s st) ((edge_told l h).0 (sym told ∙ e)))))
 
   module _ (differ : b ≡ false) where
     ne : l ≢ h
-    ne = decides_false b told differ
+    ne q = false≢true (sym differ ∙ told ∙ (edge_told l h).1 q)
 
     pub normalise_allowed : {mask : ℕ} → NodeMaskEnsures s st k l h mask → NormaliseRequires k l h mask
     normalise_allowed m =

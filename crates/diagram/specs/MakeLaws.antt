@@ -1,5 +1,5 @@
 -- Laws of making a node: found, added, or no room.
-use Rattle.std.specs.Prelude.{◌≡◌, refl, ◌≢◌, List, ℕ, ◌+◌, ◌≤◌}
+use Rattle.std.specs.Prelude.{◌≡◌, refl, ◌≢◌, List, ℕ, ◌+◌, ◌≤◌, Option, Some, None}
 use Rattle.std.proofs.Common.{◌∙◌, arith}
 use Rattle.diagram.specs.Node.{capacity, node_at}
 use Rattle.diagram.specs.Table.{TableSound, FindEnsures}
@@ -23,23 +23,25 @@ module _ {s : List ℕ} {st : State} {x : Node} where
   make_none t e z =
       record { same = refl; absent = record { not = λ n p q. absurd (omega (arith, t.room)) }; full = omega arith }
 
-  pub make_old : {r : ℕ} → StateSound s st → FindEnsures (node_at s) st.count x r → r ≢ 0 → MakeAt s s st st x r
-  make_old t f h =
+  pub make_old : {r : Option ℕ} {n : ℕ} → StateSound s st → FindEnsures (node_at s) st.count x r → r ≡ Some n
+      → MakeAt s s st st x n
+  make_old {n = n} t f q =
+      let h = f.found n q in
       record {
         long = refl;
         stored = t;
         epoch = refl;
-        first = omega arith;
-        within = f.within;
-        here = f.there (omega arith);
+        first = h.first;
+        within = h.within;
+        here = h.there;
         entered = old refl refl;
       }
 
-  pub make_no_room : {r room : ℕ} → FindEnsures (node_at s) st.count x r → r ≡ 0 → room ≡ capacity s
+  pub make_no_room : {r : Option ℕ} {room : ℕ} → FindEnsures (node_at s) st.count x r → r ≡ None → room ≡ capacity s
       → room ≤ st.count → MakeFull s s st x
   make_no_room f z e p = record { same = refl; absent = f.absent z; full = omega arith }
 
-  pub make_new : {r k : ℕ} {s₁ s' : List ℕ} → FindEnsures (node_at s) st.count x r → r ≡ 0
+  pub make_new : {r : Option ℕ} {k : ℕ} {s₁ s' : List ℕ} → FindEnsures (node_at s) st.count x r → r ≡ None
       → AppendEnsures s s₁ st.count st.buckets x
       → RebuildEnsures s₁ s' (st.count + 1) k
       → MakeAt s s' st (record { count = st.count + 1; buckets = k; epoch = st.epoch }) x (st.count + 1)

@@ -4,10 +4,9 @@ use Rattle.std.specs.Prelude.{◌≡◌, ◌≢◌, List, [], ◌∷◌, ◌++�
 use Rattle.diagram.specs.Fields.{field}
 use Rattle.diagram.specs.Node.{node_at}
 use Rattle.diagram.specs.Compact.{MarksClosed}
-use Rattle.diagram.specs.Registers.{edges_of}
+use Rattle.diagram.specs.Registers.{Register, edges_of}
 use Rattle.diagram.specs.declared.node.Node.{Node}
 use Rattle.diagram.specs.declared.node.Edge.{Edge}
-use Rattle.diagram.specs.declared.registers.Register.{Register}
 
 -- n is marked
 abbrev pub Marked : List ℕ → ℕ → Type 0

@@ -1,6 +1,6 @@
 -- Laws of marking: from the registers, then downwards, since children stand before their parents.
-use Rattle.std.specs.Prelude.{◌≡◌, refl, ◌≢◌, List, [], ◌∷◌, ◌++◌, true, false, ℕ, ◌*◌, ◌≤◌, ◌-◌, ◌+◌, ◌<◌, length}
-use Rattle.std.specs.Prelude.{get_or, take}
+use Rattle.std.specs.Prelude.{◌≡◌, refl, ◌≢◌, List, [], ◌∷◌, ◌++◌, ℕ, ◌*◌, ◌≤◌, ◌-◌, ◌+◌, ◌<◌, length}
+use Rattle.std.specs.Prelude.{get_or, take, Some, None}
 use Rattle.std.proofs.Common.{ap, sym, subst, ◌∙◌, append-nil, arith, add-one, take-suc, take_all}
 use Rattle.std.proofs.Math.Decide.{ℕ_discrete}
 use Rattle.diagram.specs.Fields.{field, put_field}
@@ -12,11 +12,10 @@ use Rattle.diagram.specs.Mark.{ChildrenBefore, SpreadEnsures, Marked, SpreadLoop
 use Rattle.diagram.specs.Mark.{MarkChildrenEnsures}
 use Rattle.diagram.specs.Mark.{AllMarked, ExactlyMarked, RootsEnsures, NoneMarked, RootEnsures, RootsLoop}
 use Rattle.diagram.specs.Mark.{marks_of, ReachEnsures}
-use Rattle.diagram.specs.Registers.{occupied, edges_of, empty_register, AllValid}
+use Rattle.diagram.specs.Registers.{Register, edges_of, empty_register, AllValid}
 use Rattle.diagram.specs.RegistersLaws.{edges_append}
 use Rattle.diagram.specs.declared.node.Node.{Node}
 use Rattle.diagram.specs.declared.node.Edge.{Edge}
-use Rattle.diagram.specs.declared.registers.Register.{Register}
 
 pub mark_ensures : (c : ℕ) (s : List ℕ) → 16 * c ≤ length s → c ≢ 0 → MarkEnsures s (put_field s 5 (c - 1) 1) c
 mark_ensures c s h o = record {
@@ -168,14 +167,14 @@ exactly_edge {count} {es} {s₀} {s} {s'} e r m = record {
   ];
 }
 
-pub root_empty : (x : Register) (s : List ℕ) → occupied x ≡ false → RootEnsures x s s
+pub root_empty : {r : Register} {s : List ℕ} → r ≡ None → RootEnsures r s s
 unfolding edges_of
-root_empty x s e = record { on = λ count es s₀ r. rw (e, append-nil es) r }
+root_empty q = rw q (record { on = λ count es s₀ r. rw (append-nil es) r })
 
-pub root_filled : (x : Register) (s s' : List ℕ) → occupied x ≡ true → MarkEnsures s s' x.edge.node
-    → RootEnsures x s s'
+pub root_filled : {r : Register} {e : Edge} {s s' : List ℕ} → r ≡ Some e → MarkEnsures s s' e.node
+    → RootEnsures r s s'
 unfolding edges_of
-root_filled x s s' e m = record { on = λ count es s₀ r. rw e (exactly_edge x.edge r m) }
+root_filled {e = e} q m = rw q (record { on = λ count es s₀ r. exactly_edge e r m })
 
 -- one register more
 pub exactly_more : {count : ℕ} {s₀ s s' : List ℕ} (rs : List Register) (i : ℕ) (x : Register) → i < length rs

@@ -4,7 +4,7 @@
 --   field 1   low node             field 2   high weight % 65536          field 3   high node
 --   field 4   the unique table's head of bucket n - 1                     field 5   the next node of n's chain
 --   field 6   mask % 65536         field 7   mask / 65536
-use Rattle.std.specs.Prelude.{List, [], ◌∷◌, ◌++◌, Bool, true, false, ℕ, ◌+◌, ◌*◌, ◌/◌, ◌%◌, ◌≤◌, ◌<◌, ◌-◌, min, zero}
+use Rattle.std.specs.Prelude.{List, [], ◌∷◌, ◌++◌, ℕ, ◌+◌, ◌*◌, ◌/◌, ◌%◌, ◌≤◌, ◌<◌, ◌-◌, min, zero}
 use Rattle.std.specs.Prelude.{suc, length}
 use Rattle.diagram.specs.Fields.{field, put_field}
 use Rattle.diagram.specs.declared.node.Node.{Node}
@@ -63,11 +63,6 @@ head_at s b = field s 4 b
 
 abbrev pub next_at : List ℕ → ℕ → ℕ
 next_at s n = field s 5 (n - 1)
-
--- the answer to "is it so that P?"
-abbrev pub Decides : Type 0 → Bool → Type 0
-Decides P true = P
-Decides P false = P → ⊥
 
 -- the nodes 1 .. m as a list
 unfoldable pub listed : (ℕ → Node) → ℕ → List Node

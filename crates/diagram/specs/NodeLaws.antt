@@ -1,30 +1,24 @@
 -- Laws of nodes' records: reading back, what a write leaves alone, nodes as a list, equality decided field by field.
-use Rattle.std.specs.Prelude.{◌≡◌, refl, ◌≢◌, Bool, true, false, eqb, get_or}
-use Rattle.std.proofs.Common.{ap, ◌∙◌, subst, ap₂, sym, arith, add-one, length-append, eqb-true}
+use Rattle.std.specs.Prelude.{◌≡◌, refl, ◌≢◌, Bool, eqb, ◌&&◌, get_or}
+use Rattle.std.proofs.Common.{ap, ◌∙◌, subst, ap₂, sym, arith, add-one, length-append}
 use Rattle.std.proofs.Math.Path.{fun_ext}
 use mathlib.Core.List.{List, [], ◌∷◌, ◌++◌}
 use Prim.Native.Nat.{ℕ, ◌/◌, ◌%◌, ◌≤◌, ◌<◌, ◌-◌, zero, suc, ◌+◌}
 use Rattle.std.proofs.Math.Decide.{ℕ_discrete}
 use Rattle.std.proofs.Math.ListN.{length, get_or-append}
 use Rattle.std.proofs.Math.Seq.{get_or-append_seam}
-use Rattle.std.proofs.lemmas.Bool.{eqb-false}
+use Rattle.std.specs.Bool.{Decides}
+use Rattle.std.proofs.lemmas.Bool.Decides.{Decides-and, Decides-eqb}
 use Rattle.diagram.specs.Fields.{field, put_field}
 use Rattle.diagram.specs.FieldsLaws.{put_field_length, put_field_same, put_field_other, put_field_beside}
-use Rattle.diagram.specs.Node.{NodeFits, RecordWithin, put_node, decode, packed_field, node_at, Decides}
+use Rattle.diagram.specs.Node.{NodeFits, RecordWithin, put_node, decode, packed_field, node_at}
 use Rattle.diagram.specs.Node.{listed}
 use Rattle.diagram.specs.Sets.{PrefixOf}
 use Rattle.diagram.specs.SetsLaws.{prefix_refl, prefix_trans}
-use Rattle.diagram.specs.TestLaws.{cases}
 use Rattle.diagram.specs.declared.node.Node.{Node}
 use Rattle.diagram.specs.declared.node.Edge.{Edge}
 
 -- a node read and written, field by field
-
-pub decides_true : {P : Type 0} (b : Bool) → Decides P b → b ≡ true → P
-decides_true {P} b p e = subst (Decides P) e p
-
-pub decides_false : {P : Type 0} (b : Bool) → Decides P b → b ≡ false → P → ⊥
-decides_false {P} b p e = subst (Decides P) e p
 
 pub read_by : (s : List ℕ) (n : ℕ) {a b c d e f : ℕ}
     → a ≡ field s 0 (n - 1) → b ≡ field s 1 (n - 1) → c ≡ field s 2 (n - 1) → d ≡ field s 3 (n - 1)
@@ -48,27 +42,32 @@ edge_eq p q = λ i. record { weight = p i; node = q i }
 pub node_eq : {x y : Node} → x.index ≡ y.index → x.low ≡ y.low → x.high ≡ y.high → x.mask ≡ y.mask → x ≡ y
 node_eq p q r t = λ i. record { index = p i; low = q i; high = r i; mask = t i }
 
-pub weights_differ : {a b : Edge} → a.weight ≢ b.weight → a ≢ b
-weights_differ n e = n (ap (λ (x : Edge). x.weight) e)
+-- what the derived `==` of edges and of nodes answers
 
-pub nodes_differ : {a b : Edge} → a.node ≢ b.node → a ≢ b
-nodes_differ n e = n (ap (λ (x : Edge). x.node) e)
+abbrev pub same_edge : Edge → Edge → Bool
+same_edge a b = eqb a.weight b.weight && eqb a.node b.node
 
-pub indices_differ : {x y : Node} → x.index ≢ y.index → x ≢ y
-indices_differ n e = n (ap (λ (z : Node). z.index) e)
+abbrev pub same_node : Node → Node → Bool
+same_node x y = eqb x.index y.index && (same_edge x.low y.low && (same_edge x.high y.high && eqb x.mask y.mask))
 
-pub low_edges_differ : {x y : Node} (b : Bool) → Decides (x.low ≡ y.low) b → b ≡ false → x ≢ y
-low_edges_differ b t f e = decides_false b t f (ap (λ (z : Node). z.low) e)
+pub edge_told : (a b : Edge) → Decides (same_edge a b) (a ≡ b)
+edge_told a b =
+    let told = Decides-and _ _ (Decides-eqb a.weight b.weight) (Decides-eqb a.node b.node) in (
+      λ q. (let w = told.0 q in edge_eq w.0 w.1),
+      λ e. told.1 (ap (λ (x : Edge). x.weight) e, ap (λ (x : Edge). x.node) e),
+    )
 
-pub high_edges_differ : {x y : Node} (b : Bool) → Decides (x.high ≡ y.high) b → b ≡ false → x ≢ y
-high_edges_differ b t f e = decides_false b t f (ap (λ (z : Node). z.high) e)
-
-pub masks_decide : (x y : Node) (a b : Bool) → x.index ≡ y.index → Decides (x.low ≡ y.low) a → a ≡ true
-    → Decides (x.high ≡ y.high) b → b ≡ true → Decides (x ≡ y) (eqb x.mask y.mask)
-masks_decide x y a b p t q h r =
-    cases (eqb x.mask y.mask)
-    (λ e. rw e (node_eq p (decides_true a t q) (decides_true b h r) (eqb-true x.mask y.mask e)))
-    (λ e. rw e (λ f. eqb-false x.mask y.mask e (ap (λ (z : Node). z.mask) f)))
+pub node_told : (x y : Node) → Decides (same_node x y) (x ≡ y)
+node_told x y =
+    let told = Decides-and _ _ (Decides-eqb x.index y.index)
+    (Decides-and _ _ (edge_told x.low y.low)
+    (Decides-and _ _ (edge_told x.high y.high) (Decides-eqb x.mask y.mask))) in (
+      λ q. (let w = told.0 q in node_eq w.0 w.1.0 w.1.1.0 w.1.1.1),
+      λ e. told.1 (
+        ap (λ (z : Node). z.index) e,
+        (ap (λ (z : Node). z.low) e, (ap (λ (z : Node). z.high) e, ap (λ (z : Node). z.mask) e)),
+      ),
+    )
 
 -- two functions that are equal are equal at i
 pub there : {f g : ℕ → ℕ} → f ≡ g → (i : ℕ) → f i ≡ g i

@@ -1,7 +1,7 @@
 -- The unique table: a hash table in the records. The head of bucket b is in record b, the next node of n's chain in n's
 -- own record. A new node comes to the front of its chain, so numbers fall along a chain, and both fields are given by
 -- `last`: the last node of a bucket up to a number.
-use Rattle.std.specs.Prelude.{◌≡◌, cond, ◌≢◌, List, ℕ, ◌+◌, ◌*◌, ◌≤◌, ◌<◌, ◌-◌, zero, suc, length, eqb}
+use Rattle.std.specs.Prelude.{◌≡◌, cond, ◌≢◌, List, ℕ, ◌+◌, ◌*◌, ◌≤◌, ◌<◌, ◌-◌, zero, suc, length, eqb, Option, Some, None}
 use Rattle.std.specs.Int.Bits.{bit_and}
 use Rattle.diagram.specs.Node.{node_at, head_at, next_at}
 use Rattle.diagram.specs.declared.node.Node.{Node}
@@ -43,11 +43,16 @@ pub record TableSound (s : List ℕ) (count k : ℕ) : Type 0 where
 pub record Absent (f : ℕ → Node) (m : ℕ) (x : Node) : Type 0 where
   pub not : (n : ℕ) → 1 ≤ n → n ≤ m → f n ≢ x
 
--- r is the number of the node x among 1 .. count, or 0 where there is none
-pub record FindEnsures (f : ℕ → Node) (count : ℕ) (x : Node) (r : ℕ) : Type 0 where
-  pub within : r ≤ count
-  pub there : 1 ≤ r → f r ≡ x
-  pub absent : r ≡ 0 → Absent f count x
+-- n is the number of the node x among 1 .. count
+pub record FoundAt (f : ℕ → Node) (count : ℕ) (x : Node) (n : ℕ) : Type 0 where
+  pub first : 1 ≤ n
+  pub within : n ≤ count
+  pub there : f n ≡ x
+
+-- r is the number of the node x among 1 .. count, where there is one
+pub record FindEnsures (f : ℕ → Node) (count : ℕ) (x : Node) (r : Option ℕ) : Type 0 where
+  pub found : (n : ℕ) → r ≡ Some n → FoundAt f count x n
+  pub absent : r ≡ None → Absent f count x
 
 -- A walk along x's chain has come to r: no node above r is x.
 pub record FindLoop (s : List ℕ) (count k : ℕ) (x : Node) (r : ℕ) : Type 0 where

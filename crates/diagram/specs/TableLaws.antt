@@ -1,15 +1,17 @@
 -- Laws of the unique table: the last node of a bucket, buckets in range, the walk along a chain.
-use Rattle.std.specs.Prelude.{◌≡◌, refl, Bool, true, false, cond, ◌≢◌, List, ℕ, zero, suc, ◌≤◌, ◌<◌, ◌-◌, eqb}
+use Rattle.std.specs.Prelude.{◌≡◌, refl, Bool, true, false, cond, ◌≢◌, List, ℕ, zero, suc, ◌≤◌, ◌<◌, ◌-◌, eqb, Some, None, unwrap_or}
 use Rattle.std.proofs.Math.Path.{ap}
-use Rattle.std.proofs.Common.{ap₂, sym, ◌∙◌, eqb-true, eq-eqb, ne_eqb}
+use Rattle.std.proofs.Common.{ap₂, sym, subst, ◌∙◌, eqb-true, eq-eqb, ne_eqb}
 use native.Mathlib.Omega.{arith}
 use Rattle.std.proofs.Math.Decide.{dec_le}
 use Rattle.std.proofs.lemmas.Bool.{eqb-false}
 use Rattle.std.specs.Int.Bits.{bit_and}
 use Rattle.std.proofs.lemmas.Nat.{and_le_r}
-use Rattle.diagram.specs.Table.{IsLast, last, hash_of, FindLoop, TableSound, FindEnsures, mix, hash}
-use Rattle.diagram.specs.Node.{node_at, head_at, next_at, Decides}
-use Rattle.diagram.specs.NodeLaws.{decides_true, decides_false}
+use Rattle.std.proofs.lemmas.Option.{none-some}
+use Rattle.std.proofs.lemmas.Bool.{false≢true}
+use Rattle.diagram.specs.Table.{IsLast, last, hash_of, FindLoop, TableSound, FoundAt, FindEnsures, mix, hash}
+use Rattle.diagram.specs.Node.{node_at, head_at, next_at}
+use Rattle.diagram.specs.NodeLaws.{same_node, node_told}
 use Rattle.diagram.specs.declared.node.Node.{Node}
 
 pub last_none : (h : ℕ → ℕ) (b : ℕ) → last h b 0 ≡ 0
@@ -71,10 +73,13 @@ module _ {s : List ℕ} {count k : ℕ} {x : Node} (t : TableSound s count k) wh
 
   module _ {r : ℕ} (some : r ≢ 0) (w : FindLoop s count k x r) where
     -- the node y at r is compared with x
-    module _ {y : Node} (here : y ≡ node_at s r) (b : Bool) (told : Decides (y ≡ x) b) where
-      pub walk_found : b ≡ true → FindEnsures (node_at s) count x r
-      walk_found e =
-          record { within = w.within; there = λ _. sym here ∙ decides_true b told e; absent = λ z. absurd (some z) }
+    module _ {y : Node} (here : y ≡ node_at s r) (b : Bool) (told : b ≡ same_node y x) where
+      pub walk_found : b ≡ true → FindEnsures (node_at s) count x (Some r)
+      walk_found e = record {
+        found = λ n q. subst (FoundAt (node_at s) count x) (ap (λ o. unwrap_or o 0) q)
+            (record { first = omega arith; within = w.within; there = sym here ∙ (node_told y x).0 (sym told ∙ e) });
+        absent = λ z. absurd (none-some _ (sym z));
+      }
 
       pub walk_on : {r' : ℕ} → b ≡ false → r' ≡ next_at s r → FindLoop s count k x r'
       unfolding hash_of
@@ -87,8 +92,8 @@ module _ {s : List ℕ} {count k : ℕ} {x : Node} (t : TableSound s count k) wh
             above = λ n p q i. elim (dec_le n (r - 1)) [
               | yes below ↦ l.gap n p below (ap (hash k) i)
               | no here' ↦ elim (dec_le n r) [
-                | yes at ↦ (let same : n ≡ r = omega arith in decides_false b told e
-                    (here ∙ ap (node_at s) (sym same) ∙ i))
+                | yes at ↦ (let same : n ≡ r = omega arith in false≢true
+                    (sym e ∙ told ∙ (node_told y x).1 (here ∙ ap (node_at s) (sym same) ∙ i)))
                 | no over ↦ w.above n (omega arith) q i
               ]
             ];
@@ -104,11 +109,8 @@ module _ {s : List ℕ} {count k : ℕ} {x : Node} (t : TableSound s count k) wh
         ))
 
 pub walk_end : {s : List ℕ} {count k : ℕ} {x : Node} {r : ℕ} → r ≡ 0 → FindLoop s count k x r
-    → FindEnsures (node_at s) count x r
-walk_end z w =
-    record {
-      within = w.within;
-      there = λ p. absurd (omega arith);
-      absent = λ _. record
-          { not = λ n p q. w.above n (omega arith) q };
-    }
+    → FindEnsures (node_at s) count x None
+walk_end z w = record {
+  found = λ n q. absurd (none-some n q);
+  absent = λ _. record { not = λ n p q. w.above n (omega arith) q };
+}

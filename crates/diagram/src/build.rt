@@ -10,7 +10,7 @@ ghost use Rattle.diagram.specs.Diagram.{IsSound, KeepsCache, Does};
 use crate::diagram::{Diagram, Full};
 use crate::gate::{Gate, Qubit};
 use crate::node::{Assignment, Edge, INDICES, Index};
-use crate::{entry, gate};
+use crate::entry;
 
 // v with bit k set.
 fn with_bit(v: Assignment, k: Index) -> Assignment
@@ -45,8 +45,8 @@ fn next_used(g: Gate, k: Index) -> Index
     requires { QubitsInRange g × (k ≤ index_count) }
     ensures { NoneUsed g k result }
 {
-    let a = gate::first_qubit(g);
-    let b = gate::second_qubit(g);
+    let a = g.first_qubit();
+    let b = g.second_qubit();
     if a < b {
         owned(a, b, k)
     } else {

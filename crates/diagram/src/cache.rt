@@ -16,6 +16,19 @@ pub enum Op {
     Lows,
 }
 
+impl Op {
+    // What an entry's words say for it.
+    fn code(self) -> u64
+        ensures { (result ≡ code_of self) × (result < 3) }
+    {
+        match self {
+            Op::Sum => 0,
+            Op::Contract => 1,
+            Op::Lows => 2,
+        }
+    }
+}
+
 // Everything that a result depends on: the operation, its two nodes (lowering has one, twice), and for sum the ratio of
 // the weights, for contraction the set S, for lowering the set that goes down.
 #[derive(Clone, Copy)]
@@ -26,89 +39,47 @@ pub struct Key {
     pub arg: u64,
 }
 
-#[derive(Clone, Copy)]
-pub enum LookupResult {
-    Hit(Edge),
-    Miss,
-}
+impl Key {
+    // The operation and the nodes in one word.
+    fn packed(self) -> u64
+        requires { KeyFits self }
+        ensures { result ≡ pack self }
+    {
+        self.op.code() * 4294967296 + self.left as u64 * 65536 + self.right as u64
+    }
 
-fn wide(x: usize) -> u64
-    ensures { result ≡ x }
-{
-    x as u64
-}
-
-fn narrow(x: u64) -> usize
-    ensures { result ≡ x }
-{
-    x as usize
-}
-
-fn code(op: Op) -> u64
-    ensures { (result ≡ code_of op) × (result < 3) }
-{
-    match op {
-        Op::Sum => 0,
-        Op::Contract => 1,
-        Op::Lows => 2,
+    // Its entry, one of so many. Close nodes have close entries, as in the unique table. A power of 2 needs no
+    // division.
+    fn place(self, slots: usize) -> usize
+        requires { (1 ≤ slots) × KeyFits self }
+        ensures { result < slots }
+    {
+        let m = self.left * 5 + self.right * 3 + self.arg as usize * 977;
+        let mask = slots - 1;
+        if slots & mask == 0 {
+            return m & mask;
+        }
+        m % slots
     }
 }
 
-// The operation and the nodes in one word.
-fn packed(key: Key) -> u64
-    requires { KeyFits key }
-    ensures { result ≡ pack key }
-{
-    let op = key.op;
-    let left = wide(key.left);
-    let right = wide(key.right);
-    let n = code(op);
-    n * 4294967296 + left * 65536 + right
-}
-
-// The entry of a key, one of so many. Close nodes have close entries, as in the unique table. A power of 2 needs no
-// division.
-fn place(slots: usize, key: Key) -> usize
-    requires { (1 ≤ slots) × KeyFits key }
-    ensures { result < slots }
-{
-    let left = key.left;
-    let right = key.right;
-    let arg = narrow(key.arg);
-    let m = left * 5 + right * 3 + arg * 977;
-    let mask = slots - 1;
-    if slots & mask == 0 {
-        return m & mask;
-    }
-    m % slots
-}
-
-pub(crate) fn lookup(cache: &[u64], epoch: Epoch, key: Key) -> LookupResult
+// The result that the cache has for the key, of this epoch.
+pub(crate) fn lookup(cache: &[u64], epoch: Epoch, key: Key) -> Option<Edge>
     requires { KeyFits key }
     ensures { LookupEnsures cache.now epoch key result }
 {
     let slots = cache.len() / 4;
     if slots == 0 {
-        return LookupResult::Miss;
+        return None;
     }
-    let i = place(slots, key);
-    let word = packed(key);
-    let arg = key.arg;
-    let at = 4 * i;
-    if cache[at] != word {
-        return LookupResult::Miss;
+    let at = 4 * key.place(slots);
+    if cache[at] != key.packed() || cache[at + 1] != key.arg || cache[at + 2] != epoch {
+        return None;
     }
-    if cache[at + 1] != arg {
-        return LookupResult::Miss;
-    }
-    if cache[at + 2] != epoch {
-        return LookupResult::Miss;
-    }
-    let w = cache[at + 3];
-    let n = narrow(w % 65536);
-    LookupResult::Hit(Edge {
-        weight: w / 65536,
-        node: n,
+    let result = cache[at + 3];
+    Some(Edge {
+        weight: result / 65536,
+        node: (result % 65536) as usize,
     })
 }
 
@@ -120,28 +91,18 @@ pub(crate) fn remember(cache: &mut [u64], epoch: Epoch, key: Key, e: Edge)
     if slots == 0 {
         return;
     }
-    let i = place(slots, key);
-    let word = packed(key);
-    let arg = key.arg;
-    let w = e.weight;
-    let n = wide(e.node);
-    let result = w * 65536 + n;
-    let at = 4 * i;
-    cache[at] = word;
-    cache[at + 1] = arg;
+    let at = 4 * key.place(slots);
+    cache[at] = key.packed();
+    cache[at + 1] = key.arg;
     cache[at + 2] = epoch;
-    cache[at + 3] = result;
+    cache[at + 3] = e.weight * 65536 + e.node as u64;
 }
 
 // Forgets everything: no entry is of an epoch from 1 on.
 pub(crate) fn clear(cache: &mut [u64])
     ensures { AllZero cache.new }
 {
-    let mut i = 0;
-    while i < cache.len() {
-        cache[i] = 0;
-        i += 1;
-    }
+    cache.fill(0);
 }
 
 // An epoch that no entry is of. At the largest one everything is forgotten, so that an epoch never comes twice.
@@ -149,7 +110,7 @@ pub(crate) fn next_epoch(cache: &mut [u64], epoch: Epoch) -> Epoch
     requires { NoneLater cache.old epoch }
     ensures { AllEarlier cache.new result }
 {
-    if epoch == 18446744073709551615 {
+    if epoch == Epoch::MAX {
         clear(cache);
         return 1;
     }

@@ -1,11 +1,12 @@
 // Moves the marked nodes down. Field 5 of a node's record holds its mark, and once it has moved its new number.
-ghost use Rattle.std.specs.Prelude.{◌≡◌, ◌≢◌, ◌+◌, ◌*◌, ◌-◌, ◌≤◌, ◌<◌, length};
+ghost use Rattle.std.specs.Prelude.{◌≡◌, ◌≢◌, ◌+◌, ◌*◌, ◌-◌, ◌≤◌, ◌<◌, length, Some};
 ghost use Rattle.diagram.specs.Fields.{field};
 ghost use Rattle.diagram.specs.Node.{NodeFits, RecordWithin, node_at};
 ghost use Rattle.diagram.specs.Compact.{ChildrenWithin, MarksClosed, forward as forwarded, shift_node};
 ghost use Rattle.diagram.specs.Compact.{renumber_node, CompactStepEnsures, CompactEnsures, renumber_register};
 ghost use Rattle.diagram.specs.Compact.{renumber_registers};
 ghost use Rattle.diagram.specs.Registers.{RegistersValid};
+ghost use Rattle.diagram.specs.declared.node.Edge as edge;
 
 use crate::node::{Edge, Node, NodeCount, NodeNumber};
 use crate::registers::{Register, Registers};
@@ -68,43 +69,31 @@ pub(crate) fn compact(s: &mut [u8], count: NodeCount) -> NodeCount
         (node_at s.old) count) }
     ensures { CompactEnsures s.old s.new count result }
 {
-    let mut m = 0;
-    let mut k: NodeCount = 0;
-    while m < count {
+    let mut k = 0;
+    for m in 0..count {
         k = compact_step(s, count, m, k);
-        m += 1;
     }
     k
 }
 
 // A register with its node's new number.
+#[tactic(auto, unfolding(crate::specs::Compact::renumber_register))]
 fn moved(s: &[u8], r: Register) -> Register
-    requires { r.filled ≡ 1 → 16 * r.edge.node ≤ length s.now }
+    requires { (e : edge.Edge) → r ≡ Some e → 16 * e.node ≤ length s.now }
     ensures { result ≡ renumber_register (forwarded s.now) r }
 {
-    if r.filled == 1 {
-        let weight = r.edge.weight;
-        let node = forward(s, r.edge.node);
-        return Register {
-            filled: 1,
-            edge: Edge { weight, node },
-        };
-    }
-    r
+    let Edge { weight, node } = r?;
+    let node = forward(s, node);
+    Some(Edge { weight, node })
 }
 
 // The registers with their nodes' new numbers.
-pub(crate) fn renumber(s: &[u8], count: NodeCount, registers: Registers) -> Registers
+pub(crate) fn renumber(s: &[u8], count: NodeCount, mut registers: Registers) -> Registers
     requires { (16 * count ≤ length s.now) × RegistersValid count registers.all }
     ensures { result.all ≡ renumber_registers (forwarded s.now) registers.all }
 {
-    let mut out = registers;
-    let mut i = 0;
-    while i < 16 {
-        let r = out.all[i];
-        let x = moved(s, r);
-        out.all[i] = x;
-        i += 1;
+    for r in registers.all.iter_mut() {
+        *r = moved(s, *r);
     }
-    out
+    registers
 }

@@ -7,7 +7,7 @@ ghost use Rattle.diagram.specs.Operation.{high_step};
 ghost use Rattle.diagram.specs.Contract.{ContractReduced, FactoredEnsures, cont_without, combine};
 ghost use Rattle.diagram.specs.Diagram.{tensor, Ready, HighReady, Joinable, KeepsLoans, DoesCached};
 
-use crate::cache::{Key, LookupResult, Op};
+use crate::cache::{Key, Op};
 use crate::diagram::{Diagram, Full};
 use crate::node::{Edge, Index, Mask, Weight};
 use crate::{cache, edge, mask};
@@ -31,7 +31,7 @@ impl<'a> Diagram<'a> {
     {
         let v = a.weight;
         let w = b.weight;
-        let zero = Edge { weight: 0, node: 0 };
+        let zero = Edge::ZERO;
         if v == 0 {
             return Ok(zero);
         }
@@ -72,7 +72,7 @@ impl<'a> Diagram<'a> {
             right: b.node,
             arg: m,
         };
-        if let LookupResult::Hit(e) = self.recall(key) {
+        if let Some(e) = self.recall(key) {
             return Ok(e);
         }
         let e = self.contract_split(a, b, m)?;

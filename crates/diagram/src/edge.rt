@@ -27,7 +27,7 @@ pub(crate) fn added(a: Edge, b: Edge) -> Edge
 {
     let weight = field::add(a.weight, b.weight);
     if weight == 0 {
-        return Edge { weight: 0, node: 0 };
+        return Edge::ZERO;
     }
     Edge { weight, node: a.node }
 }

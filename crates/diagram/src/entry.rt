@@ -6,8 +6,8 @@ ghost use Rattle.diagram.specs.Gate.{bit as bit_of, entry as entry_of};
 ghost use Rattle.diagram.specs.Entry.{QubitsInRange};
 
 use crate::gate::{Gate, Qubit};
+use crate::mask;
 use crate::node::{Assignment, Index, Weight};
-use crate::{gate, mask};
 
 fn bit(v: Assignment, k: Index) -> usize
     requires { k < 64 }
@@ -26,7 +26,8 @@ fn single(m: [[Weight; 2]; 2], q: Qubit, v: Assignment) -> Weight
     m[i][j]
 }
 
-// A gate on the qubits a and b: rows are their fresh indices, columns their middle ones, a's counting double.
+// A gate on the qubits a and b: rows are their fresh indices, columns their middle ones, a's counting double. This is
+// not `single` at another size, since two bits choose the row and the column.
 fn pair(m: [[Weight; 4]; 4], a: Qubit, b: Qubit, v: Assignment) -> Weight
     requires { (a < 8) × (b < 8) }
     ensures { result ≡ get_or (get_or m (2 * bit_of (bits v (fresh a)) + bit_of (bits v (fresh b))) [])
@@ -45,8 +46,8 @@ pub(crate) fn entry(g: Gate, v: Assignment) -> Weight
     requires { QubitsInRange g }
     ensures { Represents result (entry_of g (bits v)) }
 {
-    let a = gate::first_qubit(g);
-    let b = gate::second_qubit(g);
+    let a = g.first_qubit();
+    let b = g.second_qubit();
     match g {
         Gate::Cx(_, _) => pair(
             [[1, 0, 0, 0], [0, 1, 0, 0], [0, 0, 0, 1], [0, 0, 1, 0]],
@@ -66,6 +67,6 @@ pub(crate) fn entry(g: Gate, v: Assignment) -> Weight
             b,
             v,
         ),
-        _ => single(gate::matrix(g), a, v),
+        _ => single(g.matrix(), a, v),
     }
 }

@@ -27,44 +27,6 @@ pub enum Gate {
     Sw(Qubit, Qubit),
 }
 
-// X Y Z H S SD T TD CX CZ SW are 0 to 10.
-pub(crate) fn number(g: Gate) -> GateNumber
-    ensures { result ≡ gate_number g }
-{
-    match g {
-        Gate::X(_) => 0,
-        Gate::Y(_) => 1,
-        Gate::Z(_) => 2,
-        Gate::H(_) => 3,
-        Gate::S(_) => 4,
-        Gate::Sd(_) => 5,
-        Gate::T(_) => 6,
-        Gate::Td(_) => 7,
-        Gate::Cx(_, _) => 8,
-        Gate::Cz(_, _) => 9,
-        Gate::Sw(_, _) => 10,
-    }
-}
-
-// A one-qubit gate: rows output (fresh), columns input (middle). Zeros for a gate on two qubits.
-pub(crate) fn matrix(g: Gate) -> [[Weight; 2]; 2]
-    ensures { result ≡ numbers (matrix_of g) }
-{
-    match g {
-        Gate::X(_) => [[0, 1], [1, 0]],
-        Gate::Y(_) => [[0, 65281], [256, 0]],
-        Gate::Z(_) => [[1, 0], [0, 65536]],
-        Gate::H(_) => [[63497, 63497], [63497, 2040]],
-        Gate::S(_) => [[1, 0], [0, 256]],
-        Gate::Sd(_) => [[1, 0], [0, 65281]],
-        Gate::T(_) => [[1, 0], [0, 16]],
-        Gate::Td(_) => [[1, 0], [0, 61441]],
-        Gate::Cx(_, _) => [[0, 0], [0, 0]],
-        Gate::Cz(_, _) => [[0, 0], [0, 0]],
-        Gate::Sw(_, _) => [[0, 0], [0, 0]],
-    }
-}
-
 // A gate's qubit, or its two.
 #[derive(Clone, Copy)]
 pub enum Shape {
@@ -72,38 +34,78 @@ pub enum Shape {
     Two(Qubit, Qubit),
 }
 
-pub fn shape_of(g: Gate) -> Shape
-    ensures { result ≡ shape_of g }
-{
-    match g {
-        Gate::X(q)
-        | Gate::Y(q)
-        | Gate::Z(q)
-        | Gate::H(q)
-        | Gate::S(q)
-        | Gate::Sd(q)
-        | Gate::T(q)
-        | Gate::Td(q) => Shape::One(q),
-        Gate::Cx(a, b) | Gate::Cz(a, b) | Gate::Sw(a, b) => Shape::Two(a, b),
+impl Gate {
+    // X Y Z H S SD T TD CX CZ SW are 0 to 10: a decision over a number and an entry's is what document 02 asks for.
+    pub(crate) fn number(self) -> GateNumber
+        ensures { result ≡ gate_number self }
+    {
+        match self {
+            Gate::X(_) => 0,
+            Gate::Y(_) => 1,
+            Gate::Z(_) => 2,
+            Gate::H(_) => 3,
+            Gate::S(_) => 4,
+            Gate::Sd(_) => 5,
+            Gate::T(_) => 6,
+            Gate::Td(_) => 7,
+            Gate::Cx(_, _) => 8,
+            Gate::Cz(_, _) => 9,
+            Gate::Sw(_, _) => 10,
+        }
     }
-}
 
-// The gate's qubit, or its first.
-pub(crate) fn first_qubit(g: Gate) -> Qubit
-    ensures { result ≡ first_qubit g }
-{
-    match shape_of(g) {
-        Shape::One(q) => q,
-        Shape::Two(a, _) => a,
+    // A one-qubit gate: rows output (fresh), columns input (middle). Zeros for a gate on two qubits.
+    #[tactic(auto, using(crate::specs::GateLaws::as_matrix))]
+    pub(crate) fn matrix(self) -> [[Weight; 2]; 2]
+        ensures { result ≡ numbers (matrix_of self) }
+    {
+        match self {
+            Gate::X(_) => [[0, 1], [1, 0]],
+            Gate::Y(_) => [[0, 65281], [256, 0]],
+            Gate::Z(_) => [[1, 0], [0, 65536]],
+            Gate::H(_) => [[63497, 63497], [63497, 2040]],
+            Gate::S(_) => [[1, 0], [0, 256]],
+            Gate::Sd(_) => [[1, 0], [0, 65281]],
+            Gate::T(_) => [[1, 0], [0, 16]],
+            Gate::Td(_) => [[1, 0], [0, 61441]],
+            Gate::Cx(_, _) | Gate::Cz(_, _) | Gate::Sw(_, _) => [[0, 0], [0, 0]],
+        }
     }
-}
 
-// The gate's qubit again, or its second.
-pub(crate) fn second_qubit(g: Gate) -> Qubit
-    ensures { result ≡ second_qubit g }
-{
-    match shape_of(g) {
-        Shape::One(q) => q,
-        Shape::Two(_, b) => b,
+    #[tactic(auto, using(crate::specs::GateLaws::as_shape))]
+    pub fn shape(self) -> Shape
+        ensures { result ≡ shape_of self }
+    {
+        match self {
+            Gate::X(q)
+            | Gate::Y(q)
+            | Gate::Z(q)
+            | Gate::H(q)
+            | Gate::S(q)
+            | Gate::Sd(q)
+            | Gate::T(q)
+            | Gate::Td(q) => Shape::One(q),
+            Gate::Cx(a, b) | Gate::Cz(a, b) | Gate::Sw(a, b) => Shape::Two(a, b),
+        }
+    }
+
+    // The gate's qubit, or its first.
+    pub(crate) fn first_qubit(self) -> Qubit
+        ensures { result ≡ first_qubit self }
+    {
+        match self.shape() {
+            Shape::One(q) => q,
+            Shape::Two(a, _) => a,
+        }
+    }
+
+    // The gate's qubit again, or its second.
+    pub(crate) fn second_qubit(self) -> Qubit
+        ensures { result ≡ second_qubit self }
+    {
+        match self.shape() {
+            Shape::One(q) => q,
+            Shape::Two(_, b) => b,
+        }
     }
 }

@@ -35,10 +35,8 @@ fn clear(s: &mut [u8], buckets: BucketCount)
     requires { 16 * buckets ≤ length s.old }
     ensures { ClearEnsures s.old s.new buckets }
 {
-    let mut b = 0;
-    while b < buckets {
+    for b in 0..buckets {
         fields::set(s, 4, b, 0);
-        b += 1;
     }
 }
 
@@ -48,10 +46,8 @@ pub(crate) fn rebuild(s: &mut [u8], count: NodeCount, buckets: BucketCount)
     ensures { RebuildEnsures s.old s.new count buckets }
 {
     clear(s, buckets);
-    let mut m = 0;
-    while m < count {
+    for m in 0..count {
         link(s, buckets, m + 1);
-        m += 1;
     }
 }
 

@@ -6,7 +6,7 @@ ghost use Rattle.diagram.specs.Diagram.{IsSound, IsEdge, tensor, MaskOfJoin, Joi
 
 use crate::diagram::{Diagram, Full};
 use crate::node::{Edge, Index, Mask};
-use crate::{mask, node, normalise};
+use crate::{mask, normalise};
 
 impl<'a> Diagram<'a> {
     // The mask of a node at k whose parts are l and h: k, and what they depend on.
@@ -26,7 +26,7 @@ impl<'a> Diagram<'a> {
         ensures cache { KeepsCache self.old self.new }
         ensures does { Does self.old self.new (joins k (tensor self.old l) (tensor self.old h)) result }
     {
-        if node::same_edge(l, h) {
+        if l == h {
             return Ok(l);
         }
         let mask = self.node_mask(k, l, h);

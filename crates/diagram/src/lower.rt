@@ -8,7 +8,7 @@ ghost use Rattle.diagram.specs.Lower.{lows_first};
 ghost use Rattle.diagram.specs.Diagram.{IsSound, IsEdge, tensor, Ready, HighReady, KeepsLoans, DoesCached};
 ghost use Rattle.diagram.specs.Diagram.{MayLower, MayLowerSet, Lowers};
 
-use crate::cache::{Key, LookupResult, Op};
+use crate::cache::{Key, Op};
 use crate::diagram::{Diagram, Full};
 use crate::node::{Edge, Index, Mask};
 use crate::{cache, edge, mask};
@@ -66,7 +66,7 @@ impl<'a> Diagram<'a> {
             right: a.node,
             arg: m,
         };
-        if let LookupResult::Hit(e) = self.recall(key) {
+        if let Some(e) = self.recall(key) {
             return Ok(e);
         }
         let e = self.lows_split(a, m)?;

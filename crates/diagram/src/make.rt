@@ -32,9 +32,8 @@ impl<'a> Diagram<'a> {
         if room == 0 {
             return Err(Full);
         }
-        let r = table::find(store, count, buckets, x);
-        if r != 0 {
-            return Ok(r);
+        if let Some(n) = table::find(store, count, buckets, x) {
+            return Ok(n);
         }
         if room <= count {
             return Err(Full);

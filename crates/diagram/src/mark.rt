@@ -1,10 +1,11 @@
 // Marks what the marked nodes lead to. Field 5 of a node's record holds its mark.
-ghost use Rattle.std.specs.Prelude.{◌≡◌, ◌*◌, ◌≤◌, length};
+ghost use Rattle.std.specs.Prelude.{◌≡◌, ◌*◌, ◌≤◌, length, Some};
 ghost use Rattle.diagram.specs.Node.{RecordWithin, node_at};
 ghost use Rattle.diagram.specs.Compact.{ChildrenWithin};
 ghost use Rattle.diagram.specs.Mark.{MarkEnsures, ChildrenBefore, MarkChildrenEnsures, SpreadEnsures, NoneMarked};
 ghost use Rattle.diagram.specs.Mark.{RootEnsures, RootsEnsures, ReachEnsures};
 ghost use Rattle.diagram.specs.Registers.{edges_of, RegistersValid};
+ghost use Rattle.diagram.specs.declared.node.Edge.{Edge};
 
 use crate::node::{NodeCount, NodeNumber};
 use crate::registers::{Register, Registers};
@@ -41,10 +42,8 @@ fn spread(s: &mut [u8], count: NodeCount)
     requires { (16 * count ≤ length s.old) × ChildrenBefore (node_at s.old) count }
     ensures { SpreadEnsures s.old s.new count }
 {
-    let mut n = count;
-    while 0 < n {
-        mark_children(s, count, n);
-        n -= 1;
+    for n in (0..count).rev() {
+        mark_children(s, count, n + 1);
     }
 }
 
@@ -53,20 +52,18 @@ fn unmark(s: &mut [u8], count: NodeCount)
     requires { 16 * count ≤ length s.old }
     ensures { NoneMarked s.old s.new count }
 {
-    let mut m = 0;
-    while m < count {
+    for m in 0..count {
         fields::set(s, 5, m, 0);
-        m += 1;
     }
 }
 
 // Marks the node of a filled register.
 fn root(s: &mut [u8], r: Register)
-    requires { r.filled ≡ 1 → 16 * r.edge.node ≤ length s.old }
+    requires { (e : Edge) → r ≡ Some e → 16 * e.node ≤ length s.old }
     ensures { RootEnsures r s.old s.new }
 {
-    if r.filled == 1 {
-        mark(s, r.edge.node);
+    if let Some(e) = r {
+        mark(s, e.node);
     }
 }
 
@@ -75,12 +72,8 @@ fn roots(s: &mut [u8], count: NodeCount, registers: Registers)
     requires { (16 * count ≤ length s.old) × RegistersValid count registers.all }
     ensures { RootsEnsures count registers.all s.old s.new }
 {
-    let all = registers.all;
-    let mut i = 0;
-    while i < 16 {
-        let r = all[i];
+    for r in registers.all {
         root(s, r);
-        i += 1;
     }
 }
 

@@ -38,11 +38,9 @@ pub(crate) fn without(m: Mask, k: Index) -> Mask
 fn doubled(n: u32) -> Weight
     ensures { Represents result (power2 n) }
 {
-    let mut i: u32 = 0;
-    let mut r: Weight = 1;
-    while i < n {
+    let mut r = 1;
+    for _ in 0..n {
         r = field::add(r, r);
-        i += 1;
     }
     r
 }

@@ -5,7 +5,7 @@ ghost use Rattle.diagram.specs.Matrices.{weight as weight_of};
 
 use crate::node::Weight;
 
-// One of 0 to 10 (`gate::number`).
+// One of 0 to 10 (`Gate::number`).
 pub(crate) type GateNumber = usize;
 
 // Row by row from 0: 0 to 3 on one qubit, 0 to 15 on two.

@@ -1,6 +1,6 @@
 // A node, and its record in the store.
 ghost use Rattle.std.specs.Prelude.{◌≡◌};
-ghost use Rattle.diagram.specs.Node.{capacity as capacity_of, RecordWithin, NodeFits, node_at, put_node, Decides};
+ghost use Rattle.diagram.specs.Node.{capacity as capacity_of, RecordWithin, NodeFits, node_at, put_node};
 
 use crate::fields;
 
@@ -24,45 +24,24 @@ pub type Assignment = u64;
 pub(crate) const INDICES: Index = 24;
 
 // A weight times a node's tensor.
-#[derive(Clone, Copy)]
+#[derive(Clone, Copy, PartialEq, Eq)]
 pub struct Edge {
     pub weight: Weight,
     pub node: NodeNumber,
 }
 
-#[derive(Clone, Copy)]
+impl Edge {
+    // "Zero is weight 0 at node 0."
+    pub const ZERO: Edge = Edge { weight: 0, node: 0 };
+}
+
+#[derive(Clone, Copy, PartialEq, Eq)]
 pub struct Node {
     pub index: Index,
     pub low: Edge,
     pub high: Edge,
     // The indices on which the node's tensor depends.
     pub mask: Mask,
-}
-
-pub(crate) fn same_edge(a: Edge, b: Edge) -> bool
-    ensures { Decides (a ≡ b) result }
-{
-    if a.weight != b.weight {
-        return false;
-    }
-    if a.node != b.node {
-        return false;
-    }
-    true
-}
-
-pub(crate) fn same(x: Node, y: Node) -> bool
-    ensures { Decides (x ≡ y) result }
-{
-    if x.index != y.index {
-        return false;
-    }
-    if same_edge(x.low, y.low) {
-        if same_edge(x.high, y.high) {
-            return x.mask == y.mask;
-        }
-    }
-    false
 }
 
 // The most nodes that the store holds.

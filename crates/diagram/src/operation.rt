@@ -5,7 +5,7 @@ ghost use Rattle.diagram.specs.Cache.{KeyFits, LookupEnsures};
 ghost use Rattle.diagram.specs.Diagram.{IsSound, IsEdge, lowest};
 
 use crate::cache;
-use crate::cache::{Key, LookupResult};
+use crate::cache::Key;
 use crate::diagram::Diagram;
 use crate::node::{Edge, Index};
 
@@ -19,7 +19,7 @@ impl<'a> Diagram<'a> {
     }
 
     // The result that is remembered for a key, if one is.
-    pub(crate) fn recall(&self, key: Key) -> LookupResult
+    pub(crate) fn recall(&self, key: Key) -> Option<Edge>
         requires { KeyFits key }
         ensures { LookupEnsures self.now.cache.now self.now.state.epoch key result }
     {

@@ -4,7 +4,7 @@ ghost use Rattle.diagram.specs.Operation.{high_step};
 ghost use Rattle.diagram.specs.Sum.{SumReduced};
 ghost use Rattle.diagram.specs.Diagram.{tensor, Ready, HighReady, KeepsLoans, DoesCached};
 
-use crate::cache::{Key, LookupResult, Op};
+use crate::cache::{Key, Op};
 use crate::diagram::{Diagram, Full};
 use crate::node::{Edge, Index};
 use crate::{cache, edge};
@@ -51,7 +51,7 @@ impl<'a> Diagram<'a> {
             right: b.node,
             arg: b.weight,
         };
-        if let LookupResult::Hit(e) = self.recall(key) {
+        if let Some(e) = self.recall(key) {
             return Ok(e);
         }
         let e = self.sum_split(a, b)?;

@@ -21,18 +21,18 @@ pub(crate) fn hash(buckets: BucketCount, x: Node) -> usize
     m & (buckets - 1)
 }
 
-// The number of the node x, or 0 where there is none.
-pub(crate) fn find(s: &[u8], count: NodeCount, buckets: BucketCount, x: Node) -> NodeNumber
+// The number of the node x, where there is one.
+pub(crate) fn find(s: &[u8], count: NodeCount, buckets: BucketCount, x: Node) -> Option<NodeNumber>
     requires { TableSound s.now count buckets × NodeFits x }
     ensures { FindEnsures (node_at s.now) count x result }
 {
-    let b = hash(buckets, x);
-    let mut r = fields::get(s, 4, b);
-    while r != 0 {
-        if node::same(node::read(s, r), x) {
-            return r;
+    let mut n = fields::get(s, 4, hash(buckets, x));
+    // A chain of node numbers ends at 0, and no range or slice has them.
+    while n != 0 {
+        if node::read(s, n) == x {
+            return Some(n);
         }
-        r = fields::get(s, 5, r - 1);
+        n = fields::get(s, 5, n - 1);
     }
-    r
+    None
 }

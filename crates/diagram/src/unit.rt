@@ -17,7 +17,7 @@ impl<'a> Diagram<'a> {
         ensures cache { KeepsCache self.old self.new }
         ensures does { Does self.old self.new (build (onto_of q (tensor self.old e))) result }
     {
-        let zero = Edge { weight: 0, node: 0 };
+        let zero = Edge::ZERO;
         let a = self.join(3 * q + 1, e, zero)?;
         let b = self.join(3 * q + 1, zero, e)?;
         self.join(3 * q, a, b)

@@ -1,7 +1,6 @@
 -- The result of a session and of a verdict, as words.
 use Rattle.std.specs.Prelude.{◌≡◌, cond, List, [], ◌∷◌, ◌++◌, ℕ, zero, suc, ◌+◌, ◌*◌, ◌≤◌, length, get_or}
-use Rattle.diagram.specs.Registers.{occupied, empty_register}
-use Rattle.diagram.specs.declared.registers.Register.{Register}
+use Rattle.diagram.specs.Registers.{Register, occupied, edge_of, empty_register}
 use Rattle.text.specs.Print.{WriteEnsures}
 use Rattle.text.specs.declared.progress.SessionResult.{SessionResult}
 use Rattle.text.specs.declared.ruling.VerdictResult.{VerdictResult}
@@ -21,7 +20,7 @@ verdict_size = 2
 
 -- 1 where a register is filled and 0 where it is empty, its weight, its node
 unfoldable pub register_words : Register → List ℕ
-register_words r = cond (occupied r) 1 0 ∷ r.edge.weight ∷ r.edge.node ∷ []
+register_words r = cond (occupied r) 1 0 ∷ (edge_of r).weight ∷ (edge_of r).node ∷ []
 
 -- the words of the first so many registers
 unfoldable pub registers_words : ℕ → List Register → List ℕ

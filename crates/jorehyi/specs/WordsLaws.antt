@@ -1,10 +1,12 @@
 -- Laws of results as words: an empty register's words, and words put one after the other.
-use Rattle.std.specs.Prelude.{◌≡◌, refl, false, cond, List, [], ◌∷◌, ℕ, zero, suc, ◌+◌, ◌*◌, ◌≤◌, ◌<◌, get_or}
+use mir.Val.{bool_byte}
+use Rattle.std.specs.Prelude.{◌≡◌, refl, Bool, true, false, cond, List, [], ◌∷◌, ℕ, zero, suc, ◌+◌, ◌*◌, ◌≤◌, ◌<◌}
+use Rattle.std.specs.Prelude.{get_or}
 use Rattle.std.proofs.Common.{ap, sym, ◌∙◌, add-one, arith, length-append}
 use Rattle.std.proofs.Math.ListN.{length}
 use Rattle.diagram.specs.Tensor.{indices}
-use Rattle.diagram.specs.Registers.{occupied, empty_register}
-use Rattle.diagram.specs.declared.registers.Register.{Register}
+use Rattle.diagram.specs.Registers.{Register, occupied, edge_of, empty_register}
+use Rattle.diagram.specs.declared.node.Edge.{Edge}
 use Rattle.text.specs.Print.{written, WriteEnsures}
 use Rattle.text.specs.Session.{TallyRun}
 use Rattle.text.specs.Agrees.{register_at, Agrees}
@@ -22,11 +24,18 @@ empty_words a i l q = ap register_words (a.empty i l q)
 
 -- one register
 
-pub wrote_register : (r : Register) {l l₁ l₂ l₃ : List ℕ} {f at a b e : ℕ} → at + register_size ≤ length l
-    → f ≡ cond (occupied r) 1 0 → WriteEnsures l at (f ∷ []) l₁ a → WriteEnsures l₁ a (r.edge.weight ∷ []) l₂ b
-    → WriteEnsures l₂ b (r.edge.node ∷ []) l₃ e → WriteEnsures l at (register_words r) l₃ e
+-- a bool as a number
+byte_cond : (b : Bool) → bool_byte b ≡ cond b 1 0
+byte_cond true = refl
+byte_cond false = refl
+
+pub wrote_register : (r : Register) {x : Edge} {l l₁ l₂ l₃ : List ℕ} {f at a b e : ℕ} → at + register_size ≤ length l
+    → x ≡ edge_of r → f ≡ bool_byte (occupied r) → WriteEnsures l at (f ∷ []) l₁ a
+    → WriteEnsures l₁ a (x.weight ∷ []) l₂ b → WriteEnsures l₂ b (x.node ∷ []) l₃ e
+    → WriteEnsures l at (register_words r) l₃ e
 unfolding register_words
-wrote_register r h q u v w = rw (← q) (wrote_then (wrote_then u v (omega arith)) w (omega arith))
+wrote_register r h p q u v w =
+    rw (← p, ← byte_cond (occupied r), ← q) (wrote_then (wrote_then u v (omega arith)) w (omega arith))
 
 -- the loop over the registers
 

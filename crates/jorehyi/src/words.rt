@@ -1,9 +1,10 @@
 // A result as words at the front of a lent slice.
-ghost use Rattle.std.specs.Prelude.{◌≡◌, cond, ◌∷◌, [], eqb, ◌+◌, ◌≤◌, length};
+ghost use Rattle.std.specs.Prelude.{◌≡◌, ◌∷◌, [], ◌+◌, ◌≤◌, length};
 ghost use Rattle.text.specs.Print.{written, WriteEnsures};
 ghost use Rattle.jorehyi.specs.Words.{register_words, registers_words, session_words, verdict_words};
 ghost use Rattle.jorehyi.specs.Words.{register_size, registers_size, session_size, verdict_size};
 
+use diagram::node::Edge;
 use diagram::registers::{Register, Registers};
 use text::progress::SessionResult;
 use text::ruling::VerdictResult;
@@ -30,33 +31,24 @@ fn put_number(out: &mut [u64], at: usize, n: usize) -> usize
     put_word(out, at, n as u64)
 }
 
-// A caller sees 1 or 0, whatever a register's word may be.
-fn flag(filled: u64) -> u64
-    ensures { result ≡ cond (eqb filled 1) 1 0 }
-{
-    if filled == 1 { 1 } else { 0 }
-}
-
+// 1 and the edge's weight and node; three times 0 for an empty register.
 fn put_register(out: &mut [u64], at: usize, r: Register) -> usize
     requires { at + register_size ≤ length out.old }
     ensures { WriteEnsures out.old at (register_words r) out.new result }
 {
-    let filled = flag(r.filled);
-    let a = put_word(out, at, filled);
-    let b = put_word(out, a, r.edge.weight);
-    put_number(out, b, r.edge.node)
+    let edge = r.unwrap_or(Edge::ZERO);
+    let a = put_word(out, at, u64::from(r.is_some()));
+    let b = put_word(out, a, edge.weight);
+    put_number(out, b, edge.node)
 }
 
 fn put_registers(out: &mut [u64], at: usize, rs: Registers) -> usize
     requires { at + registers_size ≤ length out.old }
     ensures { WriteEnsures out.old at (registers_words 16 rs.all) out.new result }
 {
-    let mut i = 0;
     let mut e = at;
-    while i < 16 {
-        let r = rs.all[i];
+    for r in rs.all {
         e = put_register(out, e, r);
-        i += 1;
     }
     e
 }

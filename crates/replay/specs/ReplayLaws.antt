@@ -1,9 +1,9 @@
 -- Emptied registers keep what holds between two calls.
 use Rattle.std.specs.Prelude.{◌≡◌, List, ℕ}
 use Rattle.diagram.specs.Invariant.{Invariant}
+use Rattle.diagram.specs.Registers.{Register}
 use Rattle.diagram.specs.RegistersLaws.{registers_clear}
 use Rattle.diagram.specs.declared.make.State.{State}
-use Rattle.diagram.specs.declared.registers.Register.{Register}
 use Rattle.replay.specs.Replay.{cleared}
 
 pub invariant_cleared : {c s : List ℕ} {st st' : State} {rs rs' : List Register}

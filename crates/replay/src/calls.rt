@@ -12,8 +12,8 @@ use diagram::gate::{Gate, QubitCount};
 use diagram::join::Outcome;
 use diagram::make::State;
 use diagram::node::{Edge, Index, Mask};
-use diagram::registers::{RegisterContent, RegisterNumber, Registers};
-use diagram::{build, collect, contract, lower, registers, restore, support, unit};
+use diagram::registers::{RegisterNumber, Registers};
+use diagram::{build, collect, contract, lower, restore, support, unit};
 use std::io::{Print, Stdout};
 
 #[derive(Clone, Copy)]
@@ -49,7 +49,8 @@ pub fn gate(
     let Outcome::Edge(e, state) = build::gate(store, run.state, g) else {
         return refuse(stdout, store, cache, run);
     };
-    let registers = registers::put(run.registers, d, e);
+    let mut registers = run.registers;
+    registers.put(d, e);
     Run { state, registers }
 }
 
@@ -71,7 +72,8 @@ fn multiply(
     let Outcome::Edge(e, state) = contract::contract(store, cache, run.state, a, b, m) else {
         return refuse(stdout, store, cache, run);
     };
-    let registers = registers::put(run.registers, d, e);
+    let mut registers = run.registers;
+    registers.put(d, e);
     Run { state, registers }
 }
 
@@ -87,10 +89,10 @@ pub fn cont(
     requires { Invariant cache.old store.old run.state run.registers.all × ((d < 16) × (m < masks)) }
     ensures { Invariant cache.new store.new result.state result.registers.all }
 {
-    let RegisterContent::Edge(a) = registers::get(run.registers, 0) else {
+    let Some(a) = run.registers.get(0) else {
         return run;
     };
-    let RegisterContent::Edge(b) = registers::get(run.registers, 1) else {
+    let Some(b) = run.registers.get(1) else {
         return run;
     };
     multiply(stdout, store, cache, run, d, a, b, m)
@@ -118,7 +120,8 @@ pub fn unit(stdout: Stdout, store: &mut [u8], cache: &mut [u64], run: Run, n: Qu
     let Outcome::Edge(e, state) = unit::unit(store, run.state, n) else {
         return refuse(stdout, store, cache, run);
     };
-    let registers = registers::put(run.registers, 0, e);
+    let mut registers = run.registers;
+    registers.put(0, e);
     Run { state, registers }
 }
 
@@ -131,7 +134,8 @@ fn rename(stdout: Stdout, store: &mut [u8], cache: &mut [u64], run: Run, a: Edge
     let Outcome::Edge(e, state) = lower::lower(store, cache, run.state, a, k) else {
         return refuse(stdout, store, cache, run);
     };
-    let registers = registers::put(run.registers, 0, e);
+    let mut registers = run.registers;
+    registers.put(0, e);
     Run { state, registers }
 }
 
@@ -140,7 +144,7 @@ pub fn low(stdout: Stdout, store: &mut [u8], cache: &mut [u64], run: Run, k: Ind
     requires { Invariant cache.old store.old run.state run.registers.all × ((1 ≤ k) × (k ≤ 23)) }
     ensures { Invariant cache.new store.new result.state result.registers.all }
 {
-    let RegisterContent::Edge(a) = registers::get(run.registers, 0) else {
+    let Some(a) = run.registers.get(0) else {
         return run;
     };
     let j = k - 1;

@@ -10,7 +10,8 @@ use crate::calls::Run;
 use crate::{calls, show};
 use diagram::gate::{Gate, Qubit};
 use diagram::node::{Index, Mask};
-use diagram::{registers, restore};
+use diagram::registers::Registers;
+use diagram::restore;
 use std::io::Stdout;
 
 // The gate, contracted over the indices of m; register 1 has held it.
@@ -29,7 +30,8 @@ fn contract_gate(
     let one = calls::gate(stdout, store, cache, run, 1, g);
     let two = calls::cont(stdout, store, cache, one, 0, m);
     let state = two.state;
-    let registers = registers::clear(two.registers, 1);
+    let mut registers = two.registers;
+    registers.clear(1);
     Run { state, registers }
 }
 
@@ -197,6 +199,6 @@ fn from_unit(stdout: Stdout, store: &mut [u8], cache: &mut [u64], run: Run)
 
 pub fn run(stdout: Stdout, store: &mut [u8], cache: &mut [u64]) {
     let state = restore::start(store, cache);
-    let registers = registers::empty();
+    let registers = Registers::empty();
     from_unit(stdout, store, cache, Run { state, registers });
 }

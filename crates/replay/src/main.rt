@@ -27,7 +27,8 @@ ghost use Rattle.replay.specs.Replay.{cleared};
 use calls::Run;
 use diagram::gate::Gate;
 use diagram::node::Mask;
-use diagram::{registers, restore};
+use diagram::registers::Registers;
+use diagram::restore;
 use std::io::Stdout;
 
 // The index that is added over: the middle of qubit 0.
@@ -59,9 +60,10 @@ fn forget(run: Run) -> Run
     ensures { (result.state ≡ run.state) × (result.registers.all ≡ cleared run.registers.all) }
 {
     let state = run.state;
-    let a = registers::clear(run.registers, 0);
-    let b = registers::clear(a, 1);
-    let registers = registers::clear(b, 2);
+    let mut registers = run.registers;
+    registers.clear(0);
+    registers.clear(1);
+    registers.clear(2);
     Run { state, registers }
 }
 
@@ -78,7 +80,7 @@ fn again(stdout: Stdout, store: &mut [u8], cache: &mut [u64], run: Run, collecti
 
 fn replay(stdout: Stdout, store: &mut [u8], cache: &mut [u64], collecting: bool) {
     let state = restore::start(store, cache);
-    let registers = registers::empty();
+    let registers = Registers::empty();
     let run = product(
         stdout,
         store,

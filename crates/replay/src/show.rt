@@ -7,8 +7,8 @@ ghost use Rattle.diagram.specs.Store.{Sound};
 use crate::calls::Run;
 use diagram::make::State;
 use diagram::node::{Assignment, Edge};
-use diagram::registers::{RegisterContent, RegisterNumber};
-use diagram::{registers, value};
+use diagram::registers::RegisterNumber;
+use diagram::value;
 use std::io::{Print, Stdout};
 
 // What cannot be written is left out.
@@ -49,7 +49,7 @@ pub fn register(stdout: Stdout, store: &[u8], run: Run, i: RegisterNumber)
         × (RegistersValid run.state.count run.registers.all × (i < 16)) }
 {
     let s = run.state;
-    let RegisterContent::Edge(e) = registers::get(run.registers, i) else {
+    let Some(e) = run.registers.get(i) else {
         return;
     };
     line(stdout, store, s, e);
@@ -65,7 +65,7 @@ pub fn values(stdout: Stdout, store: &[u8], run: Run)
     requires { Sound store.now run.state × RegistersValid run.state.count run.registers.all }
 {
     let s = run.state;
-    let RegisterContent::Edge(e) = registers::get(run.registers, 0) else {
+    let Some(e) = run.registers.get(0) else {
         return;
     };
     word(stdout, b"values");

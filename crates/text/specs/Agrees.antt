@@ -8,7 +8,7 @@ use Rattle.diagram.specs.Tally.{Set}
 use Rattle.diagram.specs.Node.{node_at, listed}
 use Rattle.diagram.specs.Meaning.{tensors, tensor_at, edge_in, Valid}
 use Rattle.diagram.specs.Support.{support_mask}
-use Rattle.diagram.specs.Registers.{empty_register, occupied}
+use Rattle.diagram.specs.Registers.{Register, empty_register, occupied, edge_of}
 use Rattle.diagram.specs.Weights.{Weight, to_weight}
 use Rattle.text.specs.Text.{Bytes}
 use Rattle.text.specs.Limits.{register_count}
@@ -16,7 +16,6 @@ use Rattle.text.specs.Line.{read_line}
 use Rattle.text.specs.Print.{written}
 use Rattle.text.specs.Answer.{is_no}
 use Rattle.text.specs.Session.{node_count, Tally, TallyRun, Capacity, answer, run}
-use Rattle.diagram.specs.declared.registers.Register.{Register}
 use Rattle.text.specs.declared.progress.SessionResult.{SessionResult}
 
 -- the tensors of the nodes from 1 up, read off the store's bytes; node 0 is the constant 1 (tensor_at)
@@ -67,7 +66,7 @@ pub record Agrees (s o o' : Bytes) (r : SessionResult) (t : TallyRun indices) : 
   -- "A register holds a weight and a node number. Zero is weight 0 at node 0.": the weight is below 65537, the node at
   -- most the count
   pub registers : (i : ℕ) → i < register_count → occupied (register_at r i) ≡ true
-      → Valid r.count (register_at r i).edge
+      → Valid r.count (edge_of (register_at r i))
   -- the words of an empty register are 0
   pub empty : (i : ℕ) → i < register_count → occupied (register_at r i) ≡ false → register_at r i ≡ empty_register
   -- "sixteen registers"
@@ -76,8 +75,8 @@ pub record Agrees (s o o' : Bytes) (r : SessionResult) (t : TallyRun indices) : 
   -- every assignment."
   pub same : (i j : ℕ) → i < register_count → j < register_count → (A B : Tensor indices)
       → tally_register t.tally i ≡ some A → tally_register t.tally j ≡ some B
-      → (((register_at r i).edge.weight ≡ (register_at r j).edge.weight)
-      × ((register_at r i).edge.node ≡ (register_at r j).edge.node)) ↔ AgreeEverywhere A B
+      → (((edge_of (register_at r i)).weight ≡ (edge_of (register_at r j)).weight)
+      × ((edge_of (register_at r i)).node ≡ (edge_of (register_at r j)).node)) ↔ AgreeEverywhere A B
   -- "No node's tensor is a multiple of another node's."
   pub multiples : (m n : ℕ) (f : Weight) → m ≤ r.count → n ≤ r.count
       → tensor_at (node_tensors s r.count) m ≡ scale f (tensor_at (node_tensors s r.count) n) → m ≡ n
@@ -89,8 +88,8 @@ pub record Agrees (s o o' : Bytes) (r : SessionResult) (t : TallyRun indices) : 
   -- "Each filled register's weight times its node's tensor is the tensor that the tally holds there."
   pub tensors : (i : ℕ) → i < register_count → occupied (register_at r i) ≡ true
       → tally_register t.tally i
-      ≡ some (scale (to_weight (register_at r i).edge.weight)
-      (tensor_at (node_tensors s r.count) (register_at r i).edge.node))
+      ≡ some (scale (to_weight (edge_of (register_at r i)).weight)
+      (tensor_at (node_tensors s r.count) (edge_of (register_at r i)).node))
   -- "The count of lines answered, the node count and every byte printed so far equal those of the tally .. and so does
   -- the code at the end."
   pub lines : r.lines ≡ t.answered

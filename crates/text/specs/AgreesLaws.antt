@@ -1,8 +1,9 @@
 -- What the engine keeps between lines gives demand 3's sentences; what a run passes.
-use Rattle.std.specs.Prelude.{◌≡◌, List, ◌↔◌, Bool, ℕ, ◌≤◌, ◌<◌, ◌+◌, get_or, take, drop}
+use Rattle.std.specs.Prelude.{◌≡◌, List, ◌↔◌, ℕ, ◌≤◌, ◌<◌, ◌+◌, get_or, take, drop, Some, None}
+use Rattle.std.proofs.lemmas.Bool.{false≢true}
 use Rattle.std.proofs.Math.Path.{refl, ap, sym, subst}
 use Rattle.std.proofs.Common.{◌∙◌, arith}
-use Rattle.std.proofs.Math.Bool.{true, false, cond}
+use Rattle.std.proofs.Math.Bool.{true, false}
 use Rattle.std.proofs.Math.Option.{Option, none, some}
 use Rattle.std.proofs.Math.Decide.{ℕ_discrete}
 use Rattle.std.proofs.Math.ListN.{length, length-append}
@@ -10,7 +11,7 @@ use Rattle.std.proofs.Math.Seq.{take-append_seam}
 use Rattle.diagram.specs.Store.{nodes_of, set_of, tensor_of}
 use Rattle.diagram.specs.StoreLaws.{node_top, node_normal, node_form, node_low, node_high, node_multiple, edge_unique}
 use Rattle.diagram.specs.SupportStoreLaws.{support_record}
-use Rattle.diagram.specs.Registers.{empty_register, occupied, holds, holds_all}
+use Rattle.diagram.specs.Registers.{Register, empty_register, occupied, edge_of, holds, holds_all}
 use Rattle.diagram.specs.RegistersLaws.{holds_at, register_valid, register_empty}
 use Rattle.diagram.specs.Weights.{Weight, to_weight}
 use Rattle.diagram.specs.Tensor.{Tensor, indices, indices_count, scale}
@@ -26,7 +27,6 @@ use Rattle.text.specs.Agrees.{register_in, node_tensors, is_filled, AgreeEverywh
 use Rattle.text.specs.Agrees.{start, line, Point, Between}
 use Rattle.text.specs.Agrees.{AgreesThroughout}
 use Rattle.diagram.specs.declared.make.State.{State}
-use Rattle.diagram.specs.declared.registers.Register.{Register}
 use Rattle.diagram.specs.declared.node.Edge.{Edge}
 use Rattle.text.specs.declared.progress.SessionResult.{SessionResult}
 
@@ -40,33 +40,36 @@ module _ {c s : List ℕ} {st : State} {rs : List Register} (p : Invariant c s s
 
   pub same_filled : (i : ℕ) → occupied (register_in rs i) ≡ is_filled (register_tensor_lem i)
   unfolding holds
-  same_filled i = sym (ap is_filled (holds_at (set_of s st) rs i) ∙ go (occupied (register_in rs i)))
+  same_filled i = sym (ap is_filled (holds_at (set_of s st) rs i) ∙ go (register_in rs i))
     where
-      go : (b : Bool) → is_filled (cond b (some (edge_in (set_of s st) (register_in rs i).edge)) none) ≡ b
-      go true = refl
-      go false = refl
+      go : (r : Register) → is_filled (holds (set_of s st) r) ≡ occupied r
+      go None = refl
+      go (Some e) = refl
 
   pub filled_tensor : (i : ℕ) → occupied (register_in rs i) ≡ true
-      → register_tensor_lem i ≡ some (tensor_of s st (register_in rs i).edge)
+      → register_tensor_lem i ≡ some (tensor_of s st (edge_of (register_in rs i)))
   unfolding holds tensor_of
-  filled_tensor i q =
-      holds_at (set_of s st) rs i ∙ ap (λ b. cond b (some (edge_in (set_of s st) (register_in rs i).edge)) none) q
+  filled_tensor i q = holds_at (set_of s st) rs i ∙ go (register_in rs i) q
+    where
+      go : (r : Register) → occupied r ≡ true → holds (set_of s st) r ≡ some (edge_in (set_of s st) (edge_of r))
+      go None z = absurd (false≢true z)
+      go (Some e) z = refl
 
   pub weight_times_node : (i : ℕ) → occupied (register_in rs i) ≡ true
       → register_tensor_lem i
-      ≡ some (scale (to_weight (register_in rs i).edge.weight)
-      (tensor_at (node_tensors s st.count) (register_in rs i).edge.node))
+      ≡ some (scale (to_weight (edge_of (register_in rs i)).weight)
+      (tensor_at (node_tensors s st.count) (edge_of (register_in rs i)).node))
   unfolding tensor_of edge_in
   weight_times_node i q = rw (node_tensors_lem s st) (filled_tensor i q)
 
   -- the words of the registers
 
   pub filled_valid : (i : ℕ) → i < register_count → occupied (register_in rs i) ≡ true
-      → Valid st.count (register_in rs i).edge
-  filled_valid i l q = register_valid st.count rs i p.registers.valid (omega (arith, p.registers.sixteen)) q
+      → Valid st.count (edge_of (register_in rs i))
+  filled_valid i l q = register_valid st.count rs i p.registers.valid q
 
   pub empty_zero : (i : ℕ) → occupied (register_in rs i) ≡ false → register_in rs i ≡ empty_register
-  empty_zero i q = register_empty rs i p.registers.empty q
+  empty_zero i q = register_empty (register_in rs i) q
 
   -- the words of the nodes
   pub is_node : (n : ℕ) → 1 ≤ n → n ≤ st.count → IsNode s (node_tensors s st.count) n
@@ -92,26 +95,26 @@ module _ {c s : List ℕ} {st : State} {rs : List Register} (p : Invariant c s s
     filled_register : occupied (register_in rs i) ≡ true
     filled_register = same_filled i ∙ ap is_filled q
 
-    is_tensor : tensor_of s st (register_in rs i).edge ≡ A
+    is_tensor : tensor_of s st (edge_of (register_in rs i)) ≡ A
     unfolding tensor_in
     is_tensor = ap (λ o. tensor_in o A) (sym (filled_tensor i filled_register) ∙ q)
 
-    valid : Valid st.count (register_in rs i).edge
+    valid : Valid st.count (edge_of (register_in rs i))
     valid = filled_valid i l filled_register
 
   pub same_exactly : (i j : ℕ) → i < register_count → j < register_count → (A B : Tensor indices)
       → register_tensor_lem i ≡ some A → register_tensor_lem j ≡ some B
-      → (((register_in rs i).edge.weight ≡ (register_in rs j).edge.weight)
-      × ((register_in rs i).edge.node ≡ (register_in rs j).edge.node)) ↔ AgreeEverywhere A B
+      → (((edge_of (register_in rs i)).weight ≡ (edge_of (register_in rs j)).weight)
+      × ((edge_of (register_in rs i)).node ≡ (edge_of (register_in rs j)).node)) ↔ AgreeEverywhere A B
   same_exactly i j k l A B q r = (
     λ w. (agree_exactly A B).0 (sym (is_tensor i k q) ∙ ap (tensor_of s st) (edge_eq w.0 w.1) ∙ is_tensor j l r),
     λ w. one (edge_unique p.sound (valid i k q) (valid j l r) (is_tensor i k q ∙ (agree_exactly A B).1 w
         ∙ sym (is_tensor j l r))),
   )
     where
-      one : (register_in rs i).edge ≡ (register_in rs j).edge
-          → ((register_in rs i).edge.weight ≡ (register_in rs j).edge.weight) ×
-          ((register_in rs i).edge.node ≡ (register_in rs j).edge.node)
+      one : (edge_of (register_in rs i)) ≡ (edge_of (register_in rs j))
+          → ((edge_of (register_in rs i)).weight ≡ (edge_of (register_in rs j)).weight) ×
+          ((edge_of (register_in rs i)).node ≡ (edge_of (register_in rs j)).node)
       one e = (ap (λ (x : Edge). x.weight) e, ap (λ (x : Edge). x.node) e)
 
   pub no_multiples : (m n : ℕ) (f : Weight) → m ≤ st.count → n ≤ st.count

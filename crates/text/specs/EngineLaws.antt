@@ -1,11 +1,11 @@
 -- Laws of Engine: the start, and how a step is settled.
-use Rattle.std.specs.Prelude.{◌≡◌, refl, List, false, ℕ, ◌≤◌, ◌<◌, length, set, Result}
+use Rattle.std.specs.Prelude.{◌≡◌, refl, List, false, ℕ, ◌≤◌, ◌<◌, length, set, Result, Some}
 use Rattle.std.specs.Prelude as prelude
 use Rattle.std.proofs.Common.{◌∙◌, ap, sym, subst, arith, le-leb}
 use Rattle.std.proofs.lemmas.Bool.{false≢true, lt-leb}
 use Rattle.diagram.specs.Restore.{StartEnsures, RollbackEnsures, RollbackRequires}
 use Rattle.diagram.specs.RestoreLaws.{full_rollback}
-use Rattle.diagram.specs.Registers.{empty_registers, holds, holds_all, filled_with, RegistersValid}
+use Rattle.diagram.specs.Registers.{Register, empty_registers, holds, holds_all, RegistersValid}
 use Rattle.diagram.specs.RegistersLaws.{holds_set}
 use Rattle.diagram.specs.Invariant.{Invariant}
 use Rattle.diagram.specs.InvariantLaws.{start_set, holds_after, refines_cached}
@@ -30,7 +30,6 @@ use Rattle.diagram.specs.declared.registers.Registers.{Registers}
 use Rattle.text.specs.declared.answer.Answer.TheVariants.{Ok, No}
 use Rattle.text.specs.declared.call.Refusal.TheVariants.{Full}
 use Rattle.text.specs.declared.answer.Answer.{Answer}
-use Rattle.diagram.specs.declared.registers.Register.{Register}
 use Rattle.diagram.specs.declared.diagram.Full as steps
 
 -- the start
@@ -44,7 +43,7 @@ engine_start_ensures {s' = s'} {e} f q = record { long = f.long; invariant = inv
 -- a step that was done: register d is its edge, the others hold what they held
 settle_edge : {s s' : List ℕ} {e : Contents} {t : State} {rs : Registers} (d : ℕ) {f : Step indices} {x : Edge}
     → RegistersValid e.state.count e.registers.all
-    → RefinesEdge s s' e.state t f x → rs.all ≡ set e.registers.all d (filled_with x)
+    → RefinesEdge s s' e.state t f x → rs.all ≡ set e.registers.all d (Some x)
     → settle (at_most (capacity s)) d (f (set_of s e.state)) (tally_of s e)
     ≡ (Ok t.count, tally_of s' (record { state = t; registers = rs }))
 unfolding settle accept node_count tally_of holds tensor_of
@@ -55,7 +54,7 @@ settle_edge {s} {s'} {e} {t} d {x = x} g w q =
       le-leb _ _ fit,
       set_length s' t,
       q,
-      holds_set (set_of s' t) e.registers.all d (filled_with x),
+      holds_set (set_of s' t) e.registers.all d (Some x),
       holds_after s s' e.state t g w.grown,
     )
 
@@ -98,7 +97,7 @@ settle_ensures_full {c} {s} {c'} {s'} {e} {t} {d} {x} {r} b = record { on = on }
     }
 
 pub settle_ensures_edge : {c s : List ℕ} {e : Contents} {d : ℕ} {x : Edge} {t : State} {rs : Registers}
-    → rs.all ≡ set e.registers.all d (filled_with x)
+    → rs.all ≡ set e.registers.all d (Some x)
     → SettleEnsures c s c s e t d (prelude.Ok x)
     (record { answer = Ok t.count; engine = record { state = t; registers = rs } })
 settle_ensures_edge {c} {s} {e} {d} {x} {t} {rs} b = record { on = on }

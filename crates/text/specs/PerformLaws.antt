@@ -1,17 +1,16 @@
 -- Laws of Perform: one call, and a gate.
+use Rattle.std.specs.Prelude.{Some}
 use Rattle.std.specs.Prelude.{◌≡◌, refl, cond, true, Bool, false, List, [], ◌∷◌, ℕ, ◌<◌, set}
 use Rattle.std.proofs.Common.{◌∙◌, arith}
 use Rattle.std.proofs.Math.Path.{ap}
 use Rattle.std.proofs.Math.ListN.{length}
 use Rattle.diagram.specs.Tensor.{indices, indices_count}
 use Rattle.diagram.specs.Node.{capacity}
-use Rattle.diagram.specs.Invariant.{held_tensor}
-use Rattle.diagram.specs.InvariantLaws.{invariant_collect, read_valid, holds_read}
+use Rattle.diagram.specs.InvariantLaws.{invariant_collect, holds_read}
 use Rattle.diagram.specs.Store.{set_of, tensor_of}
-use Rattle.diagram.specs.Registers.{empty_register, holds, GetEnsures, RegistersValid}
+use Rattle.diagram.specs.Registers.{Register, empty_register, holds, GetEnsures}
 use Rattle.diagram.specs.RegistersLaws.{holds_set, holds_length}
 use Rattle.diagram.specs.Collect.{CollectEnsures}
-use Rattle.diagram.specs.Meaning.{Valid}
 use Rattle.text.specs.Limits.{most_qubits, register_count}
 use Rattle.text.specs.Names.{Placed}
 use Rattle.text.specs.Answer.{is_no}
@@ -33,11 +32,8 @@ use Rattle.diagram.specs.declared.make.State.{State}
 use Rattle.diagram.specs.declared.registers.Registers.{Registers}
 use Rattle.text.specs.declared.engine.Engine.{Engine}
 use Rattle.diagram.specs.declared.node.Edge.{Edge}
-use Rattle.diagram.specs.declared.registers.Register.{Register}
-use Rattle.diagram.specs.declared.registers.RegisterContent.{RegisterContent}
 use Rattle.diagram.specs.declared.gate.Gate.{Gate}
 use Rattle.text.specs.declared.answer.Answer.TheVariants as answers
-use Rattle.diagram.specs.declared.registers.RegisterContent.TheVariants as content
 
 ruling_continue : (c : Capacity) (line : ℕ) (a : Answer) (t : Tally indices) (f : Tally indices → PerformResult indices)
     → ruling_at_end c (continue_with line (a, t) f) ≡ cond (is_no a) (No Full line) (ruling_at_end c (f t))
@@ -99,29 +95,24 @@ module _ {s : List ℕ} {y : Reply} {a : Answer} {e : Engine} {b : Bool} (p : a 
 
 -- a gate
 
-pub list_valid : {m : ℕ} {rs : List Register} {r : ℕ} {x : Edge} {h : RegisterContent} → RegistersValid m rs → r < 2
-    → GetEnsures rs r h
-    → h ≡ content.Edge x → Valid m x
-list_valid {h = h} g p i o = read_valid h g (omega arith) i o
-
 module _ {c s : List ℕ} {a : PerformState} {r : ℕ} (g : Gate) (w : EngineInvariant c s a.engine)
     (q : a.refused ≡ false) (small : r < 2)
-    {h : RegisterContent} (i : GetEnsures a.engine.registers.all r h) where
-  pub performs_empty : {e : Engine} {b : Bool} → e ≡ a.engine → h ≡ content.Empty → b ≡ true
+    {h : Register} (i : GetEnsures a.engine.registers.all r h) where
+  pub performs_empty : {e : Engine} {b : Bool} → e ≡ a.engine → h ≡ empty_register → b ≡ true
       → PerformsCalls s c s a (gate_calls r g) (record { refused = b; engine = e })
-  unfolding ruling_from tally_of
+  unfolding ruling_from tally_of holds
   performs_empty m o n = record {
     invariant = rw m w;
     is = λ line more. rw (q, n)
         (gate_empty (at_most (capacity s)) line r g (tally_of s a.engine) more small
-        (holds_read (set_of s a.engine.state) i ∙ ap (held_tensor _) o));
+        (holds_read (set_of s a.engine.state) i ∙ ap (holds _) o));
   }
 
   pub performs_gate : {x : Edge} {c₁ s₁ c' s' : List ℕ} {y : Reply} {z : PerformState} → Placed most_qubits g
-      → h ≡ content.Edge x
+      → h ≡ Some x
       → SetsRegister c₁ s s₁ a.engine r (apply_step g (tensor_of s a.engine.state x)) y
       → FinishEnsures s₁ c' s' y z → PerformsCalls s c' s' a (gate_calls r g) z
-  unfolding ruling_from tally_of tensor_of
+  unfolding ruling_from tally_of tensor_of holds
   performs_gate {x} p o v f = record {
     invariant = f.invariant;
     is = λ line more. rw q
@@ -130,7 +121,7 @@ module _ {c s : List ℕ} {a : PerformState} {r : ℕ} (g : Gate) (w : EngineInv
         small
         sixteen
         (holds_read (set_of s a.engine.state) i
-        ∙ ap (held_tensor _) o) (gate_rising indices most_qubits g (omega (arith, indices_count)) p)
+        ∙ ap (holds _) o) (gate_rising indices most_qubits g (omega (arith, indices_count)) p)
         ∙ ap (λ y. continue_with line y (λ t. perform (at_most (capacity s)) more (drop_collect t))) v.is)
         ∙ f.is (at_most (capacity s)) line more);
   }

@@ -1,4 +1,5 @@
 -- Laws of Respond: the operands, and the refusals in order.
+use Rattle.std.specs.Prelude.{Some}
 use Rattle.std.specs.Prelude.{◌≡◌, ◌≢◌, Bool, false, cond, ◌-◌, ℕ, ◌<◌, set}
 use Rattle.std.proofs.Common.{subst, ◌∙◌, arith}
 use Rattle.std.proofs.Math.Path.{sym, ap, refl}
@@ -8,7 +9,7 @@ use Rattle.diagram.specs.InvariantLaws.{holds_read, read_valid, invariant_clear,
 use Rattle.diagram.specs.Tensor.{Tensor, indices, bits, constant, depends, value, masks}
 use Rattle.diagram.specs.Store.{set_of, tensor_of, Refines}
 use Rattle.diagram.specs.StoreLaws.{set_length}
-use Rattle.diagram.specs.Registers.{GetEnsures, RegistersValid, empty_register, holds}
+use Rattle.diagram.specs.Registers.{Register, GetEnsures, RegistersValid, empty_register, holds}
 use Rattle.diagram.specs.RegistersLaws.{holds_set}
 use Rattle.diagram.specs.Node.{capacity}
 use Rattle.diagram.specs.Weights.{to_weight, Represents, modulus}
@@ -20,7 +21,6 @@ use Rattle.diagram.specs.Compare.{ComparisonMeans, compared, CompareEnsures}
 use Rattle.diagram.specs.CompareLaws.{compared_means}
 use Rattle.diagram.specs.Collect.{CollectEnsures}
 use Rattle.diagram.specs.Support.{support_mask}
-use Rattle.text.specs.Limits.{register_count}
 use Rattle.text.specs.Call.{InRange, refusal_number}
 use Rattle.text.specs.Answer.{is_no, SmallAnswer}
 use Rattle.text.specs.Session.{TallyReply, refuse, with_tensor, with_register, at_most, answer, settle, comparison}
@@ -33,7 +33,6 @@ use Rattle.text.specs.declared.call.Call.{Call}
 use Rattle.text.specs.declared.engine.Engine.{Engine}
 use Rattle.text.specs.declared.engine.Reply.{Reply}
 use Rattle.diagram.specs.declared.node.Edge.{Edge}
-use Rattle.diagram.specs.declared.registers.RegisterContent.{RegisterContent}
 use Rattle.text.specs.declared.call.Refusal.TheVariants.{Empty, Depends}
 use Rattle.text.specs.declared.answer.Answer.{Answer}
 use Rattle.text.specs.declared.answer.Answer.TheVariants.{Ok, No, Value, Same, Factor, Differ, Mask}
@@ -41,10 +40,8 @@ use Rattle.text.specs.declared.call.Refusal.{Refusal}
 use Rattle.diagram.specs.declared.join.Outcome.{Outcome}
 use Rattle.diagram.specs.declared.gate.Gate.{Gate}
 use Rattle.diagram.specs.declared.compare.Comparison.{Comparison}
-use Rattle.diagram.specs.declared.registers.Register.{Register}
 use Rattle.diagram.specs.declared.registers.Registers.{Registers}
 use Rattle.diagram.specs.declared.make.State.{State}
-use Rattle.diagram.specs.declared.registers.RegisterContent.TheVariants as content
 use Rattle.text.specs.declared.call.Call.TheVariants as call
 use Rattle.diagram.specs.declared.join.Outcome.TheVariants as outcome
 use Rattle.diagram.specs.declared.compare.Comparison.TheVariants as compare
@@ -70,14 +67,14 @@ pure_ensures_as {s = s} p q h = read_ensures_as p q (h.on s)
 
 -- an operand
 
-module _ (s : List ℕ) (e : Engine) {a : ℕ} {h : RegisterContent} (r : GetEnsures e.registers.all a h)
+module _ (s : List ℕ) (e : Engine) {a : ℕ} {h : Register} (r : GetEnsures e.registers.all a h)
     (f : Tensor indices → TallyReply indices) where
-  pub operand : {x : Edge} → h ≡ content.Edge x → with_register (tally_of s e) a f ≡ f (tensor_of s e.state x)
-  unfolding with_register with_tensor tally_of tensor_of
+  pub operand : {x : Edge} → h ≡ Some x → with_register (tally_of s e) a f ≡ f (tensor_of s e.state x)
+  unfolding with_register with_tensor tally_of tensor_of holds
   operand q = rw (holds_read (set_of s e.state) r, q)
 
-  pub operand_empty : h ≡ content.Empty → with_register (tally_of s e) a f ≡ refuse Empty (tally_of s e)
-  unfolding with_register with_tensor tally_of
+  pub operand_empty : h ≡ empty_register → with_register (tally_of s e) a f ≡ refuse Empty (tally_of s e)
+  unfolding with_register with_tensor tally_of holds
   operand_empty q = rw (holds_read (set_of s e.state) r, q)
 
 -- refusals that have begun nothing
@@ -118,7 +115,7 @@ module _ {c s : List ℕ} {e : Engine} {r : Reply} (p : EngineInvariant c s e) w
   unfolding answer
   refused_line q f = respond_refused (rw q tt) f (rw q)
 
-  module _ {a : ℕ} {h : RegisterContent} (g : GetEnsures e.registers.all a h) (q : h ≡ content.Empty)
+  module _ {a : ℕ} {h : Register} (g : GetEnsures e.registers.all a h) (q : h ≡ empty_register)
       (f : RefuseEnsures e Empty r) where
     pub empty_add : {d b : ℕ} → RespondEnsures c s s e (call.Add d a b) r
     unfolding answer
@@ -137,9 +134,9 @@ module _ {c s : List ℕ} {e : Engine} {r : Reply} (p : EngineInvariant c s e) w
     empty_lows = refused_empty (λ k. k) f (operand_empty s e g _ q)
 
   -- the second operand
-  module _ {a b : ℕ} {h g : RegisterContent} {x : Edge} (i : GetEnsures e.registers.all a h)
-      (o : h ≡ content.Edge x)
-      (j : GetEnsures e.registers.all b g) (q : g ≡ content.Empty) (f : RefuseEnsures e Empty r) where
+  module _ {a b : ℕ} {h g : Register} {x : Edge} (i : GetEnsures e.registers.all a h)
+      (o : h ≡ Some x)
+      (j : GetEnsures e.registers.all b g) (q : g ≡ empty_register) (f : RefuseEnsures e Empty r) where
     pub empty_add_2 : {d : ℕ} → RespondEnsures c s s e (call.Add d a b) r
     unfolding answer
     empty_add_2 = refused_empty (λ k. k) f (operand s e i _ o ∙ operand_empty s e j _ q)
@@ -148,27 +145,27 @@ module _ {c s : List ℕ} {e : Engine} {r : Reply} (p : EngineInvariant c s e) w
     unfolding answer
     empty_cont_2 = refused_empty (λ k. k) f (operand s e i _ o ∙ operand_empty s e j _ q)
 
-module _ {e : Engine} {r : Reply} {a : ℕ} {h : RegisterContent} (g : GetEnsures e.registers.all a h) where
-  pub empty_drop : h ≡ content.Empty → RefuseEnsures e Empty r → PureEnsures e (call.Drop a) r
+module _ {e : Engine} {r : Reply} {a : ℕ} {h : Register} (g : GetEnsures e.registers.all a h) where
+  pub empty_drop : h ≡ empty_register → RefuseEnsures e Empty r → PureEnsures e (call.Drop a) r
   unfolding answer
   empty_drop q f =
       record { on = λ s. record { on = λ c p. refused_empty p (λ k. k) f (operand_empty s e g _ q) } }
 
-  pub empty_at : {s : List ℕ} {v : ℕ} → h ≡ content.Empty → RefuseEnsures e Empty r → ReadEnsures s e (call.At a v) r
+  pub empty_at : {s : List ℕ} {v : ℕ} → h ≡ empty_register → RefuseEnsures e Empty r → ReadEnsures s e (call.At a v) r
   unfolding answer
   empty_at {s} q f = record { on = λ c p. refused_empty p (λ k. k) f (operand_empty s e g _ q) }
 
-  pub empty_on : {s : List ℕ} → h ≡ content.Empty → RefuseEnsures e Empty r → ReadEnsures s e (call.On a) r
+  pub empty_on : {s : List ℕ} → h ≡ empty_register → RefuseEnsures e Empty r → ReadEnsures s e (call.On a) r
   unfolding answer
   empty_on {s} q f = record { on = λ c p. refused_empty p (λ k. k) f (operand_empty s e g _ q) }
 
-  pub empty_cmp : {b : ℕ} → h ≡ content.Empty → RefuseEnsures e Empty r → PureEnsures e (call.Cmp a b) r
+  pub empty_cmp : {b : ℕ} → h ≡ empty_register → RefuseEnsures e Empty r → PureEnsures e (call.Cmp a b) r
   unfolding answer
   empty_cmp q f =
       record { on = λ s. record { on = λ c p. refused_empty p (λ k. k) f (operand_empty s e g _ q) } }
 
-  pub empty_cmp_2 : {b : ℕ} {k : RegisterContent} {x : Edge} → h ≡ content.Edge x → GetEnsures e.registers.all b k
-      → k ≡ content.Empty
+  pub empty_cmp_2 : {b : ℕ} {k : Register} {x : Edge} → h ≡ Some x → GetEnsures e.registers.all b k
+      → k ≡ empty_register
       → RefuseEnsures e Empty r
       → PureEnsures e (call.Cmp a b) r
   unfolding answer
@@ -218,9 +215,9 @@ module _ {c' s s' : List ℕ} {e : Engine} {d : ℕ} {r : Reply} where
     responds_unit {n = n} w h = sets_register_as {f = build (unit_tensor indices n)} (λ z. z) refl
         (sets_register_step p _ w h)
 
-  module _ {a b : ℕ} {h g : RegisterContent} {x y : Edge} (i : GetEnsures e.registers.all a h)
-      (o : h ≡ content.Edge x)
-      (j : GetEnsures e.registers.all b g) (q : g ≡ content.Edge y) where
+  module _ {a b : ℕ} {h g : Register} {x y : Edge} (i : GetEnsures e.registers.all a h)
+      (o : h ≡ Some x)
+      (j : GetEnsures e.registers.all b g) (q : g ≡ Some y) where
     pub responds_add : SetsRegister c' s s' e d (sum (tensor_of s e.state x) (tensor_of s e.state y)) r
         → RespondEnsures c' s s' e (call.Add d a b) r
     unfolding answer tally_of
@@ -234,8 +231,8 @@ module _ {c' s s' : List ℕ} {e : Engine} {d : ℕ} {r : Reply} where
 
 -- the calls that set it unless they are refused by 7
 
-module _ {c' s s' : List ℕ} {e : Engine} {d a : ℕ} {h : RegisterContent} {x : Edge} {r : Reply}
-    (i : GetEnsures e.registers.all a h) (o : h ≡ content.Edge x) where
+module _ {c' s s' : List ℕ} {e : Engine} {d a : ℕ} {h : Register} {x : Edge} {r : Reply}
+    (i : GetEnsures e.registers.all a h) (o : h ≡ Some x) where
   sets_unless_as : {test : Bool} {f : Step indices} {y : Call} → (FullForgets c' r → Forgets y c' r)
       → answer (at_most (capacity s)) y (tally_of s e) ≡ cond test (refuse Depends (tally_of s e))
       (settle (at_most (capacity s)) d (f (set_of s e.state)) (tally_of s e))
@@ -267,10 +264,9 @@ pub comparison_factor : {f : ℕ} {c : Comparison} → c ≡ compare.Factor f �
 comparison_factor q = ap comparison (sym q)
 
 -- weights of valid edges are small
-pub read_small : {m : ℕ} {rs : List Register} {i : ℕ} {x : Edge} {h : RegisterContent} → RegistersValid m rs → i
-    < register_count
-    → GetEnsures rs i h → h ≡ content.Edge x → x.weight < modulus
-read_small {h = h} g p r q = (read_valid h g p r q).small
+pub read_small : {m : ℕ} {rs : List Register} {i : ℕ} {x : Edge} {h : Register} → RegistersValid m rs
+    → GetEnsures rs i h → h ≡ Some x → x.weight < modulus
+read_small {h = h} g r q = (read_valid h g r q).small
 
 comparison_accepted : (r : Comparison) → is_no (comparison r) ≡ false
 comparison_accepted compare.Same = refl
@@ -296,8 +292,8 @@ answers_only p small is forgets =
       forgets = forgets;
     }
 
-module _ {e : Engine} {a : ℕ} {h : RegisterContent} {x : Edge} (i : GetEnsures e.registers.all a h)
-    (o : h ≡ content.Edge x) where
+module _ {e : Engine} {a : ℕ} {h : Register} {x : Edge} (i : GetEnsures e.registers.all a h)
+    (o : h ≡ Some x) where
   pub responds_drop : {rs : Registers} → rs.all ≡ set e.registers.all a empty_register
       → PureEnsures e (call.Drop a)
       (record { answer = Ok e.state.count; engine = record { state = e.state; registers = rs } })
@@ -332,18 +328,17 @@ module _ {e : Engine} {a : ℕ} {h : RegisterContent} {x : Edge} (i : GetEnsures
         (operand s e i _ o ∙ ap (λ n. (Mask n, tally_of s e)) (sym is)) (never_full (Mask m) refl);
   }
 
-  pub responds_cmp : {b : ℕ} {g : RegisterContent} {y : Edge} {r : Comparison} {n : Answer} → a < register_count → b
-      < register_count
-      → GetEnsures e.registers.all b g → g ≡ content.Edge y
+  pub responds_cmp : {b : ℕ} {g : Register} {y : Edge} {r : Comparison} {n : Answer}
+      → GetEnsures e.registers.all b g → g ≡ Some y
       → CompareEnsures x y r → n ≡ comparison r → PureEnsures e (call.Cmp a b) (record { answer = n; engine = e })
   unfolding answer
-  responds_cmp {b} {g} {y} {r} {n} u v j q w m = record { on = λ s. record { on = λ c p. on c s p } }
+  responds_cmp {b} {g} {y} {r} {n} j q w m = record { on = λ s. record { on = λ c p. on c s p } }
     where
       on : (c s : List ℕ) → EngineInvariant c s e
           → RespondEnsures c s s e (call.Cmp a b) (record { answer = n; engine = e })
       on c s p =
           let t : compared (tensor_of s e.state x) (tensor_of s e.state y) ≡ r =
-          w.is s e.state p.sound (read_valid h p.registers u i o) (read_valid g p.registers v j q) in
+          w.is s e.state p.sound (read_valid h p.registers i o) (read_valid g p.registers j q) in
           answers_only p
           (subst SmallAnswer (sym m) (small_comparison _ _ r
           (subst (ComparisonMeans _ _) t (compared_means (tensor_of s e.state x) (tensor_of s e.state y)))))

@@ -12,9 +12,9 @@ use crate::answer::Answer;
 use crate::call::Call;
 use crate::engine::{Engine, Reply};
 use crate::{operate, respond};
+use diagram::collect;
 use diagram::gate::Gate;
-use diagram::registers::{RegisterContent, RegisterNumber};
-use diagram::{collect, registers};
+use diagram::registers::RegisterNumber;
 
 // Whether a call was refused, and what the calls before it leave.
 #[derive(Clone, Copy)]
@@ -62,7 +62,8 @@ fn drop_collect(store: &mut [u8], cache: &mut [u64], engine: Engine) -> Engine
     requires { EngineInvariant cache.old store.old engine }
     ensures { DropCollectEnsures store.old cache.new store.new engine result }
 {
-    let registers = registers::clear(engine.registers, 2);
+    let mut registers = engine.registers;
+    registers.clear(2);
     let swept = collect::collect(store, cache, engine.state, registers);
     let state = swept.state;
     let registers = swept.registers;
@@ -100,7 +101,7 @@ pub(crate) fn gate(
         return run;
     }
     let engine = run.engine;
-    let RegisterContent::Edge(x) = registers::get(engine.registers, r) else {
+    let Some(x) = engine.registers.get(r) else {
         let refused = true;
         return PerformState { refused, engine };
     };

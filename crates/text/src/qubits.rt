@@ -6,7 +6,6 @@ ghost use Rattle.text.specs.Names.{Placed};
 ghost use Rattle.text.specs.Qubits.{qubit_list, AllBelowEight, QubitsOf, middles as middles_of};
 
 use crate::limits::Mask;
-use diagram::gate;
 use diagram::gate::{Gate, Qubit, Shape};
 
 #[derive(Clone, Copy)]
@@ -19,7 +18,7 @@ pub(crate) fn of(g: Gate) -> Qubits
     requires { Placed most_qubits g }
     ensures { QubitsOf g result }
 {
-    match gate::shape_of(g) {
+    match g.shape() {
         Shape::One(q) => Qubits::One(q),
         Shape::Two(p, q) => {
             if q < p {

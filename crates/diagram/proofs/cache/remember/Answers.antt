@@ -17,5 +17,4 @@ pub bounds-cache-at-4 : goal.bounds-cache-at-4
 bounds-cache-at-4 c = simp length-set (omega arith)
 
 pub returns : goal.returns
-returns c = remember_written _ c.place-i.result _ _ _ _ _ (omega arith) c.requires.0 c.requires.1
-    c.packed-word.ensures c.wide-n.ensures
+returns c = remember_written _ c.place-at.result _ _ _ _ (omega arith) c.requires.0 c.requires.1 c.packed.ensures

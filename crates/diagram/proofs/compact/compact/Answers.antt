@@ -2,45 +2,33 @@ use Rattle.diagram.specs.CompactLaws.{compact_start, ahead_children, compact_bel
 use lib.ListN.{length}
 use native.Mathlib.Omega.{arith}
 use Prim.Native.Nat.{◌*◌, ◌≤◌}
-use mathlib.Core.Path.{◌≡◌, refl, ◌∙◌}
+use mathlib.Core.Path.{◌≡◌}
 use Rattle.diagram.proofs.compact.compact.Goals as goal
 
 pub loop-m-init : goal.loop-m-init
-loop-m-init c = (compact_start _ _, refl)
+loop-m-init c = compact_start _ _
 
 pub compact_step-k-requires : goal.compact_step-k-requires
 compact_step-k-requires c =
-    let long : 16 * c.args.count ≤ length c.loop-m.s = omega (arith, c.requires.0, c.loop-m.invariant.1) in (
+    let long : 16 * c.args.count ≤ length c.loop-m.s = omega (arith, c.requires.0) in (
       c.loop-m-test.true,
       (
         long,
         (
           c.requires.1.0,
           (
-            compact_below c.loop-m.invariant.0,
-            ahead_children _ _ _ _ _ _ long c.requires.1.1 c.loop-m.invariant.0 c.loop-m-test.true,
+            compact_below c.loop-m.invariant,
+            ahead_children _ _ _ _ _ _ long c.requires.1.1 c.loop-m.invariant c.loop-m-test.true,
           ),
         ),
       ),
     )
 
-pub overflow_add-m : goal.overflow_add-m
-overflow_add-m c = omega arith
-
-pub loop-m-smaller : goal.loop-m-smaller
-loop-m-smaller c = omega arith
-
 pub loop-m-preserved : goal.loop-m-preserved
-loop-m-preserved c = (
-  c.compact_step-k.ensures.on _ _ c.requires.1.1 c.loop-m.invariant.0,
-  c.compact_step-k.auto.s ∙ c.loop-m.invariant.1,
-)
-
-pub shape_of-s : goal.shape_of-s
-shape_of-s c = c.loop-m.invariant.1
+loop-m-preserved c = c.compact_step-k.ensures.on _ _ c.requires.1.1 c.loop-m.invariant
 
 pub returns : goal.returns
 returns c =
-    let done : c.loop-m.m ≡ c.args.count = omega (arith, c.loop-m.invariant.0.within) in
-    let end = rw done at c.loop-m.invariant.0 in
+    let done : c.loop-m.m ≡ c.args.count = omega (arith, c.loop-m.invariant.within) in
+    let end = rw done at c.loop-m.invariant in
     record { counted = end.counted; moved = end.moved; numbers = end.numbers }

@@ -1,10 +1,6 @@
-use Prim.Native.Nat.{◌-◌, ◌≤◌}
 use mathlib.Core.Path.{◌≡◌}
 use Rattle.diagram.specs.Compact.{forward, renumber_first}
 use Rattle.diagram.proofs.compact.renumber.Given as goal
 
-abbrev pub invariant-loop-i : goal.invariant-loop-i
-invariant-loop-i l = (l.out.all ≡ renumber_first (forward l.s) l.i l.initial.out.all) × (l.i ≤ 16)
-
-abbrev pub decreases-loop-i : goal.decreases-loop-i
-decreases-loop-i l = 16 - l.i
+abbrev pub invariant-loop-r : goal.invariant-loop-r
+invariant-loop-r l = l.r-items ≡ renumber_first (forward l.s) l.r-index l.fn.registers.all

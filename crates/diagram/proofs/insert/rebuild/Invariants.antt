@@ -1,9 +1,5 @@
-use Prim.Native.Nat.{◌-◌}
 use Rattle.diagram.specs.Insert.{RebuildLoop}
 use Rattle.diagram.proofs.insert.rebuild.Given as goal
 
 abbrev pub invariant-loop-m : goal.invariant-loop-m
-invariant-loop-m l = RebuildLoop l.initial.s l.s l.m l.count l.buckets
-
-abbrev pub decreases-loop-m : goal.decreases-loop-m
-decreases-loop-m l = l.count - l.m
+invariant-loop-m l = RebuildLoop l.initial.s l.s l.m l.fn.count l.buckets

@@ -3,17 +3,17 @@ use Rattle.diagram.specs.TableLaws.{walk_start, walk_on, walk_less, walk_found, 
 use borrow.Author.Rules.{rules}
 use Rattle.diagram.proofs.table.find.Goals as goal
 
-pub loop-r-init : goal.loop-r-init
-loop-r-init c = search (rules, walk_start)
+pub loop-n-init : goal.loop-n-init
+loop-n-init c = search (rules, walk_start)
 
-pub returns-then-same : goal.returns-then-same
-returns-then-same c = search (rules, walk_found)
+pub returns-then-eq : goal.returns-then-eq
+returns-then-eq c = search (rules, walk_found)
 
-pub loop-r-smaller : goal.loop-r-smaller
-loop-r-smaller c = search (rules, walk_less)
+pub loop-n-smaller : goal.loop-n-smaller
+loop-n-smaller c = search (rules, walk_less)
 
-pub loop-r-preserved : goal.loop-r-preserved
-loop-r-preserved c = search (rules, walk_on)
+pub loop-n-preserved : goal.loop-n-preserved
+loop-n-preserved c = search (rules, walk_on)
 
 pub returns : goal.returns
 returns c = search (rules, walk_end)

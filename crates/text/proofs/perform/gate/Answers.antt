@@ -1,5 +1,6 @@
 use borrow.Author.Rules.{rules}
-use Rattle.text.specs.PerformLaws.{list_valid, performs_refused, performs_empty, performs_gate}
+use Rattle.diagram.specs.InvariantLaws.{read_valid}
+use Rattle.text.specs.PerformLaws.{performs_refused, performs_empty, performs_gate}
 use Rattle.text.proofs.perform.gate.Goals as goal
 
 pub returns-then-run : goal.returns-then-run
@@ -9,7 +10,7 @@ pub returns-in_default : goal.returns-in_default
 returns-in_default c = search (rules, performs_empty)
 
 pub apply-reply-requires : goal.apply-reply-requires
-apply-reply-requires c = (search rules, (search rules, (search (rules, list_valid), search rules)))
+apply-reply-requires c = (search rules, (search rules, (search (rules, read_valid), search rules)))
 
 pub returns : goal.returns
 returns c =

@@ -66,11 +66,11 @@ contract-returns-clause-does t c =
 pub contract_cached-recall-requires : goal.contract_cached-recall-requires
 contract_cached-recall-requires t c = search (rules, contract_key_fits)
 
-pub contract_cached-returns-in-Hit-clause-does : goal.contract_cached-returns-in-Hit-clause-does
-contract_cached-returns-in-Hit-clause-does t c =
+pub contract_cached-returns-in-Some-clause-does : goal.contract_cached-returns-in-Some-clause-does
+contract_cached-returns-in-Some-clause-does t c =
     let pre = c.requires in
     cached_hit pre.0 (contract_key_step pre.0 pre.1)
-    (lookup_is _ c.recall.ensures c.in-Hit.is)
+    (lookup_is _ c.recall.ensures c.in-Some.is)
 
 pub contract_cached-remember-requires : goal.contract_cached-remember-requires
 contract_cached-remember-requires t c = search (rules, contract_key_fits, cached_fits)

@@ -38,11 +38,11 @@ lows-returns-clause-does t c =
 pub lows_cached-recall-requires : goal.lows_cached-recall-requires
 lows_cached-recall-requires t c = search (rules, lows_key_fits)
 
-pub lows_cached-returns-in-Hit-clause-does : goal.lows_cached-returns-in-Hit-clause-does
-lows_cached-returns-in-Hit-clause-does t c =
+pub lows_cached-returns-in-Some-clause-does : goal.lows_cached-returns-in-Some-clause-does
+lows_cached-returns-in-Some-clause-does t c =
     let pre = c.requires in
     cached_hit pre.0 (lows_key_step pre.0 pre.1)
-    (lookup_is _ c.recall.ensures c.in-Hit.is)
+    (lookup_is _ c.recall.ensures c.in-Some.is)
 
 pub lows_cached-remember-requires : goal.lows_cached-remember-requires
 lows_cached-remember-requires t c = search (rules, lows_key_fits, cached_fits)

@@ -48,10 +48,10 @@ sum-returns-clause-does t c =
 pub sum_cached-recall-requires : goal.sum_cached-recall-requires
 sum_cached-recall-requires t c = search (rules, sum_key_fits)
 
-pub sum_cached-returns-in-Hit-clause-does : goal.sum_cached-returns-in-Hit-clause-does
-sum_cached-returns-in-Hit-clause-does t c =
+pub sum_cached-returns-in-Some-clause-does : goal.sum_cached-returns-in-Some-clause-does
+sum_cached-returns-in-Some-clause-does t c =
     cached_hit c.requires.0 (sum_key_step c.requires.0 c.requires.1)
-    (lookup_is _ c.recall.ensures c.in-Hit.is)
+    (lookup_is _ c.recall.ensures c.in-Some.is)
 
 pub sum_cached-remember-requires : goal.sum_cached-remember-requires
 sum_cached-remember-requires t c = search (rules, sum_key_fits, cached_fits)

@@ -6,11 +6,11 @@ use Rattle.diagram.proofs.diagram.Diagram.make.Goals as goal
 pub returns-then-room-eq0-clause-makes : goal.returns-then-room-eq0-clause-makes
 returns-then-room-eq0-clause-makes c = search (rules, make_none)
 
-pub find-r-requires : goal.find-r-requires
-find-r-requires c = search (rules, state_sound_table)
+pub find-requires : goal.find-requires
+find-requires c = search (rules, state_sound_table)
 
-pub returns-then-r-ne0-clause-makes : goal.returns-then-r-ne0-clause-makes
-returns-then-r-ne0-clause-makes c = search (rules, make_old)
+pub returns-in-Some-clause-makes : goal.returns-in-Some-clause-makes
+returns-in-Some-clause-makes c = search (rules, make_old)
 
 pub returns-then-room-count-clause-makes : goal.returns-then-room-count-clause-makes
 returns-then-room-count-clause-makes c = search (rules, make_no_room)
