@@ -20,14 +20,11 @@ fn remake(store: &mut [u8], count: NodeCount, buckets: BucketCount)
 }
 
 impl<'a> Diagram<'a> {
-    // No nodes, whatever the store and the cache hold.
-    pub fn start(store: &'a mut [u8], cache: &'a mut [u64]) -> Diagram<'a>
-        ensures lent { (result.store.ghost_name ≡ store.entry.ghost_name)
-            × (result.cache.ghost_name ≡ cache.entry.ghost_name) }
-        ensures start { StartEnsures result.cache.now store.old result.store.now result.state }
+    // A diagram in this store, with this cache. Of its nodes nothing is known before `start`.
+    pub fn over(store: &'a mut [u8], cache: &'a mut [u64]) -> Diagram<'a>
+        ensures store { (result.store.ghost_name ≡ store.entry.ghost_name) × (result.store.now ≡ store.old) }
+        ensures cache { result.cache.ghost_name ≡ cache.entry.ghost_name }
     {
-        cache::clear(cache);
-        remake(store, 0, 1);
         let state = State {
             count: 0,
             buckets: 1,
@@ -38,6 +35,20 @@ impl<'a> Diagram<'a> {
             cache,
             state,
         }
+    }
+
+    // No nodes, whatever the store and the cache hold.
+    pub fn start(&mut self)
+        ensures loans { KeepsLoans self.old self.new }
+        ensures start { StartEnsures self.new.cache.now self.old.store.now self.new.store.now self.new.state }
+    {
+        cache::clear(self.cache);
+        remake(self.store, 0, 1);
+        self.state = State {
+            count: 0,
+            buckets: 1,
+            epoch: 1,
+        };
     }
 
     // The nodes of `before` again, where a refused call has left more.

@@ -205,7 +205,7 @@ pub apply_rising : (g : Gate) (qs : Qubits) → Placed most_qubits g → QubitsO
 apply_rising g qs p o = rw o.is (gate_rising indices most_qubits g (omega (arith, indices_count)) p)
 
 module _ {c c₁ s : List ℕ} {st : State} {x : Edge} (h : OperationRequires c s st x x) {g : Gate}
-    (p : Placed most_qubits g) (k : c₁ ≡ c) where
+    (p : Placed most_qubits g) (k : c₁ ≡ c) {qs : Qubits} (o : QubitsOf g qs) where
   pub apply_full : {s₁ : List ℕ} {t : State} {f : Full} → Refines s s₁ st t (build (gate_tensor indices g)) (Err f)
       → RefinesCached c₁ s s₁ st t (apply_step g (tensor_of s st x)) (Err f)
   unfolding apply_step ◌>>=◌
@@ -215,7 +215,7 @@ module _ {c c₁ s : List ℕ} {st : State} {x : Edge} (h : OperationRequires c 
       (contract_step_grows (qubits g) (tensor_of s st x) _
       (gate_rising indices most_qubits g (omega (arith, indices_count)) p) _)
 
-  module _ {qs : Qubits} (o : QubitsOf g qs) {s₁ : List ℕ} {t : State} {a : Edge}
+  module _ {s₁ : List ℕ} {t : State} {a : Edge}
       (w : Refines s s₁ st t (build (gate_tensor indices g)) (Ok a)) where
     build_refines : RefinesCached c₁ s s₁ st t (build (gate_tensor indices g)) (Ok a)
     build_refines = cached_step s₁ t (build (gate_tensor indices g)) (Ok a) h k w

@@ -8,6 +8,7 @@ use Rattle.diagram.specs.Restore.{RollbackEnsures, RollbackRequires}
 use Rattle.diagram.specs.Cache.{AllEarlier}
 use Rattle.diagram.specs.Tally.{Step}
 use Rattle.diagram.specs.Node.{capacity}
+use Rattle.diagram.specs.Diagram.{KeepsLoans}
 use Rattle.diagram.specs.Operation.{RefinesCached}
 use Rattle.text.specs.Answer.{is_no, SmallAnswer}
 use Rattle.text.specs.Session.{Tally, empty_tally, at_most, settle}
@@ -28,7 +29,7 @@ pub record Contents : Type 0 where
   pub registers : Registers
 
 abbrev pub contents : Engine → Contents
-contents e = record { state = e.diagram.state; registers = e.registers }
+contents e = record { state = e.diagram.now.state; registers = e.registers }
 
 -- a call's answer, and what it leaves
 pub record Reply : Type 0 where
@@ -92,11 +93,19 @@ pub record SettleEnsures (c s c' s' : List ℕ) (e : Contents) (t : State) (d : 
 
 -- the same, of an engine e before the call and e' after it
 
+-- the diagram is the one that the engine was started over, with its store and its cache
+pub record KeepsEngine (e e' : Engine) : Type 0 where
+  pub same_diagram : e'.diagram.ghost_name ≡ e.diagram.ghost_name
+  pub loans : KeepsLoans e.diagram.now e'.diagram.now
+
+abbrev pub Starts : Engine → Engine → Type 0
+Starts e e' = EngineStartEnsures e'.diagram.now.cache.now e.diagram.now.store.now e'.diagram.now.store.now (contents e')
+
 abbrev pub IsEngine : Engine → Type 0
-IsEngine e = EngineInvariant e.diagram.cache.now e.diagram.store.now (contents e)
+IsEngine e = EngineInvariant e.diagram.now.cache.now e.diagram.now.store.now (contents e)
 
 abbrev pub Sets : Engine → Engine → ℕ → Step indices → Answer → Type 0
-Sets e e' d f a = SetsRegister e'.diagram.cache.now e.diagram.store.now e'.diagram.store.now (contents e) d f
+Sets e e' d f a = SetsRegister e'.diagram.now.cache.now e.diagram.now.store.now e'.diagram.now.store.now (contents e) d f
     (reply a e')
 
 -- the engine e is where the step has left it, and st is the state before the step
@@ -104,12 +113,12 @@ abbrev pub before_step : Engine → State → Contents
 before_step e st = record { state = st; registers = e.registers }
 
 abbrev pub RefusesFull : Engine → Engine → State → Answer → Type 0
-RefusesFull e e' st a = RefuseFullEnsures e'.diagram.cache.now e.diagram.store.now e'.diagram.store.now
+RefusesFull e e' st a = RefuseFullEnsures e'.diagram.now.cache.now e.diagram.now.store.now e'.diagram.now.store.now
     (before_step e st) (reply a e')
 
 abbrev pub MaySettle : Engine → State → Result Edge steps.Full → Type 0
-MaySettle e st m = SettleRequires e.diagram.cache.now e.diagram.store.now st m
+MaySettle e st m = SettleRequires e.diagram.now.cache.now e.diagram.now.store.now st m
 
 abbrev pub Settles : Engine → Engine → State → ℕ → Result Edge steps.Full → Answer → Type 0
-Settles e e' st d m a = SettleEnsures e.diagram.cache.now e.diagram.store.now e'.diagram.cache.now
-    e'.diagram.store.now (before_step e st) e.diagram.state d m (reply a e')
+Settles e e' st d m a = SettleEnsures e.diagram.now.cache.now e.diagram.now.store.now e'.diagram.now.cache.now
+    e'.diagram.now.store.now (before_step e st) e.diagram.now.state d m (reply a e')

@@ -122,11 +122,11 @@ pub cached_settle_requires : {c c' s s' : List ℕ} {st t : State} {rs : List Re
 cached_settle_requires (prelude.Ok e) p w = tt
 cached_settle_requires (prelude.Err x) p w = full_rollback p.sound w
 
-pub step_settle_requires : {c c' s s' : List ℕ} {st t : State} {rs : List Register} {f : Step indices}
-    (m : Result Edge steps.Full)
+pub step_settle_requires : {c c' s : List ℕ} {st : State} {rs : List Register} (s' : List ℕ) (t : State)
+    (f : Step indices) (m : Result Edge steps.Full)
     → Invariant c s st rs → c' ≡ c
     → Refines s s' st t f m → SettleRequires c' s' st m
-step_settle_requires {s' = s'} {t = t} {f = f} m p k w =
+step_settle_requires s' t f m p k w =
     rw k (cached_settle_requires m p (refines_cached s' p t f m w))
 
 -- the step, and then the register

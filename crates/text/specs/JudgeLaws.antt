@@ -14,21 +14,18 @@ use Rattle.text.specs.Check.{TextRead, CheckResultInRange}
 use Rattle.text.specs.Ruling.{SmallRuling, RulingWritten}
 use Rattle.text.specs.VerdictSession.{ruling_of_answer, perform, ruling_at_end, list_calls, session_calls}
 use Rattle.text.specs.VerdictSession.{ruling_of_reading, ruling_on, verdict_result}
-use Rattle.text.specs.Engine.{tally_of, EngineStartEnsures}
-use Rattle.text.specs.Respond.{PureEnsures}
+use Rattle.text.specs.Engine.{Contents, Reply, tally_of, EngineStartEnsures}
+use Rattle.text.specs.Respond.{RespondEnsures}
 use Rattle.text.specs.Perform.{ruling_from}
-use Rattle.text.specs.List.{ruling_from_state, next_line, GateList, gate_list, GateLines, ListRequires}
+use Rattle.text.specs.List.{ListState, ruling_from_state, next_line, GateList, gate_list, GateLines, ListRequires}
 use Rattle.text.specs.List.{ListEnds, ListEnsures}
-use Rattle.text.specs.Judge.{CompareListsEnsures, SecondEnsures, JudgeEnsures, VerdictEnsures}
+use Rattle.text.specs.Judge.{SecondEnsures, JudgeEnsures, VerdictEnsures}
 use Rattle.text.specs.SplitLaws.{lines_none, ends_from}
 use Rattle.text.specs.PrintLaws.{written_none}
 use Rattle.text.specs.CheckListsLaws.{items_next, text_items, good_text}
 use Rattle.text.specs.ListLaws.{ruling_refused}
 use Rattle.text.specs.declared.answer.Answer.{Answer}
-use Rattle.text.specs.declared.engine.Engine.{Engine}
-use Rattle.text.specs.declared.engine.Reply.{Reply}
 use Rattle.text.specs.declared.ruling.Ruling.{Ruling}
-use Rattle.text.specs.declared.list.ListState.{ListState}
 use Rattle.diagram.specs.declared.gate.Gate.{Gate}
 use Rattle.text.specs.declared.check.Item.{Item}
 use Rattle.text.specs.declared.check.Fault.TheVariants.{Full}
@@ -55,13 +52,6 @@ small_ruling (answers.Factor f) h = h
 small_ruling answers.Differ h = tt
 small_ruling (answers.Mask m) h = tt
 
-pub compare_lists_ensures : {e : Engine} {y : Reply} {r : Ruling} → PureEnsures e (call.Cmp 0 1) y
-    → r ≡ ruling_of_answer y.answer → CompareListsEnsures e r
-compare_lists_ensures {y = y} w q = record {
-  on = λ c s p. q ∙ ap (λ z. ruling_of_answer z.0) (sym ((w.on s).on c p).is);
-  small = λ c s p. subst SmallRuling (sym q) (small_ruling y.answer ((w.on s).on c p).small);
-}
-
 -- the end of a session
 
 ruling_end : (c : Capacity) (s : List ℕ) (x : ListState) → x.refused ≡ false
@@ -85,13 +75,18 @@ module _ {l : GateList} {s c' s' : List ℕ} {a x : ListState} (w : ListEnsures 
         small = tt;
       }
 
-  pub second_ensures : {r : Ruling} → length s' ≡ length s → x.refused ≡ false → CompareListsEnsures x.engine r
+  pub second_ensures : {y : Reply} {r : Ruling} → length s' ≡ length s → x.refused ≡ false
+      → RespondEnsures c' s' s' x.engine (call.Cmp 0 1) y → r ≡ ruling_of_answer y.answer
       → SecondEnsures l s a r
-  second_ensures {r} m q u = record {
-    is = λ hs rest ls. u.on c' s' w.invariant ∙ (rw m (ruling_end (at_most (capacity s)) s' x q)) ∙ through hs rest
-        ls;
-    small = u.small c' s' w.invariant;
+  second_ensures {y} {r} m q u e = record {
+    is = λ hs rest ls. e ∙ ap (λ z. ruling_of_answer z.0) (sym u.is)
+        ∙ (rw m (ruling_end (at_most (capacity s)) s' x q)) ∙ through hs rest ls;
+    small = subst SmallRuling (sym e) (small_ruling y.answer u.small);
   }
+
+-- where the run stands, the last line not refused
+abbrev going : ListState → ListState
+going x = record { refused = false; line = x.line; place = x.place; engine = x.engine }
 
 -- a good text: its first list begins with the header
 
@@ -119,7 +114,7 @@ module _ {text : Bytes} {n parting count : ℕ} (g : GoodText text n parting cou
     long = omega (arith, g.place);
   }
 
-  pub first_ahead : {e : Engine}
+  pub first_ahead : {e : Contents}
       → ListRequires first_gates (record { refused = false; line = 0; place = 0; engine = e })
   first_ahead = record {
     ahead = record { not_refused = refl; inside = text_some text g.text; passed = omega arith };
@@ -128,7 +123,7 @@ module _ {text : Bytes} {n parting count : ℕ} (g : GoodText text n parting cou
     are = first_lines;
   }
 
-  module _ {c₁ s₁ c' s' : List ℕ} {e : Engine} {x : ListState} (b : EngineStartEnsures c₁ s₁ e)
+  module _ {s c₁ s₁ c' s' : List ℕ} {e : Contents} {x : ListState} (b : EngineStartEnsures c₁ s s₁ e)
       (w : ListEnsures first_gates s₁ c' s' (record { refused = false; line = 0; place = 0; engine = e }) x) where
     -- the verdict, from where the first list ends
     whole : ruling_on indices (at_most (capacity s₁)) text
@@ -137,10 +132,9 @@ module _ {text : Bytes} {n parting count : ℕ} (g : GoodText text n parting cou
     whole = rw (g.text, ← b.is) ((w.performs g.first tail first_lines).is
         (list_calls 1 n (length g.first + 2) g.second))
 
-    pub first_refused : {s : List ℕ} → length s₁ ≡ length s → x.refused ≡ true
-        → JudgeEnsures text s (No Full x.line)
-    first_refused l q =
-        record { is = rw (← l) (sym (whole ∙ ruling_refused (at_most (capacity s₁)) _ s' x q)); small = tt }
+    pub first_refused : x.refused ≡ true → JudgeEnsures text s (No Full x.line)
+    first_refused q =
+        record { is = rw (← b.long) (sym (whole ∙ ruling_refused (at_most (capacity s₁)) _ s' x q)); small = tt }
 
     module _ (q : x.refused ≡ false) where
       first_done : ListEnds first_gates (1 + (parting - 2)) tail (record {
@@ -160,10 +154,10 @@ module _ {text : Bytes} {n parting count : ℕ} (g : GoodText text n parting cou
             long = omega (arith, g.place, g.last);
           }
 
-      pub second_ahead : ListRequires second_gates x
+      pub second_ahead : ListRequires second_gates (going x)
       second_ahead = record {
         ahead = record {
-          not_refused = q;
+          not_refused = refl;
           inside = (items_next n text x.place first_done.next).inside;
           passed = w.passed;
         };
@@ -172,12 +166,15 @@ module _ {text : Bytes} {n parting count : ℕ} (g : GoodText text n parting cou
         are = second_lines;
       }
 
-      pub judge_ensures : {s : List ℕ} {r : Ruling} → length s₁ ≡ length s → length s' ≡ length s₁
-          → SecondEnsures second_gates s' x r → JudgeEnsures text s r
-      judge_ensures {s} {r} l k u =
+      pub judge_ensures : {r : Ruling} → length s' ≡ length s₁
+          → SecondEnsures second_gates s' (going x) r → JudgeEnsures text s r
+      judge_ensures {r} k u =
+          let e : x ≡ going x = λ i. record { refused = q i; line = x.line; place = x.place; engine = x.engine } in
           let z : x.line + 1 ≡ length g.first + 2 = omega (arith, first_done.line, g.place) in
           record {
-            is = rw (← l) ((rw (k, z) at (u.is g.second [] second_lines)) ∙ sym whole);
+            is = rw (← b.long) ((rw (k, z) at (u.is g.second [] second_lines))
+                ∙ ap (λ y. ruling_from_state (at_most (capacity s₁)) (list_calls 1 n (length g.first + 2) g.second) s' y)
+                (sym e) ∙ sym whole);
             small = u.small;
           }
 

@@ -1,20 +1,28 @@
 -- Running the lists of a verdict's text line by line, as the code does it.
-use Rattle.std.specs.Prelude.{List, ◌++◌, [], ◌∷◌, ◌≡◌, false, ℕ, ◌+◌, ◌≤◌, ◌<◌, length, drop}
+use Rattle.std.specs.Prelude.{List, ◌++◌, [], ◌∷◌, ◌≡◌, Bool, false, ℕ, ◌+◌, ◌≤◌, ◌<◌, length, drop, Result, ⊤}
+use Rattle.std.specs.Result.{is_err}
 use Rattle.diagram.specs.Node.{capacity}
 use Rattle.text.specs.Text.{Bytes, LF, lines}
 use Rattle.text.specs.Session.{Capacity, at_most}
 use Rattle.text.specs.Check.{item_of, items, gate_items}
 use Rattle.text.specs.VerdictSession.{NumberedCall, gate_calls, at_line, gates_calls, list_calls}
 use Rattle.text.specs.Split.{end_from, part}
-use Rattle.text.specs.Engine.{EngineInvariant}
-use Rattle.text.specs.Perform.{ruling_from}
-use Rattle.text.specs.declared.perform.PerformState.{PerformState}
-use Rattle.text.specs.declared.list.ListState.{ListState}
+use Rattle.text.specs.Engine.{Contents, contents, EngineInvariant, KeepsEngine, IsEngine}
+use Rattle.text.specs.Perform.{PerformState, ruling_from}
+use Rattle.text.specs.declared.list.Lists.{Lists}
+use Rattle.text.specs.declared.call.Refusal.{Refusal}
 use Rattle.text.specs.declared.ruling.Ruling.{Ruling}
 use Rattle.diagram.specs.declared.gate.Gate.{Gate}
 use Rattle.text.specs.declared.check.Item.{Item}
 use Rattle.text.specs.declared.call.Call.TheVariants as call
 use Rattle.text.specs.declared.check.Item.TheVariants as item
+
+-- where the run of the lists stands: `line` lines were run, the last of them refused or not; the next begins at `place`
+pub record ListState : Type 0 where
+  pub refused : Bool
+  pub line : ℕ
+  pub place : ℕ
+  pub engine : Contents
 
 abbrev pub list_state_of : PerformState → ℕ → ℕ → ListState
 list_state_of r line place = record { refused = r.refused; line = line; place = place; engine = r.engine }
@@ -149,3 +157,48 @@ pub record GatesLoop (l : GateList) (a : ListState) (s₀ c s : List ℕ) (i : �
   pub passed : p.line ≤ p.place
   pub line : p.line ≡ a.line + i
   pub each : (gs : List Gate) (rest : List Item) → GateLines l a.place gs rest → GatesReached l a s₀ gs rest s p
+
+-- the same, of the lists l before the call and l' after it
+
+abbrev pub IsLists : Lists → Type 0
+IsLists l = IsEngine l.engine
+
+-- where the run stands, the last line refused or not
+abbrev pub stand : Bool → Lists → ListState
+stand refused l = record { refused = refused; line = l.line; place = l.place; engine = contents l.engine }
+
+abbrev pub part_of : Lists → ℕ → ℕ → GateList
+part_of l r count = gate_list l.text.now l.qubits r count
+
+abbrev pub IsAhead : Lists → Type 0
+IsAhead l = LineAhead l.text.now (stand false l)
+
+abbrev pub IsGateAhead : Lists → Type 0
+IsGateAhead l = GateRequires l.text.now l.qubits (stand false l)
+
+abbrev pub GatesAhead : Lists → ℕ → ℕ → Type 0
+GatesAhead l r count = GatesRequires (part_of l r count) (stand false l)
+
+abbrev pub ListAhead : Lists → ℕ → ℕ → Type 0
+ListAhead l r count = ListRequires (part_of l r count) (stand false l)
+
+pub record KeepsText (l l' : Lists) : Type 0 where
+  pub engine : KeepsEngine l.engine l'.engine
+  pub same_text : l'.text.now ≡ l.text.now
+  pub same_qubits : l'.qubits ≡ l.qubits
+
+abbrev pub Opens : Lists → Lists → ℕ → Result ⊤ Refusal → Type 0
+Opens l l' r x = OpenEnsures l.text.now l.qubits r l.engine.diagram.now.store.now l'.engine.diagram.now.cache.now
+    l'.engine.diagram.now.store.now (stand false l) (stand (is_err x) l')
+
+abbrev pub RunsGate : Lists → Lists → ℕ → Result ⊤ Refusal → Type 0
+RunsGate l l' r x = GateEnsures l.text.now l.qubits r l.engine.diagram.now.store.now l'.engine.diagram.now.cache.now
+    l'.engine.diagram.now.store.now (stand false l) (stand (is_err x) l')
+
+abbrev pub RunsGates : Lists → Lists → ℕ → ℕ → Result ⊤ Refusal → Type 0
+RunsGates l l' r count x = GatesEnsures (part_of l r count) l.engine.diagram.now.store.now l'.engine.diagram.now.cache.now
+    l'.engine.diagram.now.store.now (stand false l) (stand (is_err x) l')
+
+abbrev pub RunsList : Lists → Lists → ℕ → ℕ → Result ⊤ Refusal → Type 0
+RunsList l l' r count x = ListEnsures (part_of l r count) l.engine.diagram.now.store.now l'.engine.diagram.now.cache.now
+    l'.engine.diagram.now.store.now (stand false l) (stand (is_err x) l')

@@ -8,14 +8,12 @@ use Rattle.text.specs.Check.{item_of, GateRead, IsGate, gate_items}
 use Rattle.text.specs.VerdictSession.{NumberedCall, gate_calls, at_line, gates_calls, list_calls}
 use Rattle.text.specs.Split.{part, Ends, end_from}
 use Rattle.text.specs.Engine.{EngineInvariant}
-use Rattle.text.specs.Perform.{ruling_from, PerformsCalls}
-use Rattle.text.specs.List.{list_state_of, ruling_from_state, PerformsLines, LineAhead, LinePassed, OpenEnsures}
+use Rattle.text.specs.Perform.{PerformState, ruling_from, PerformsCalls}
+use Rattle.text.specs.List.{ListState, list_state_of, ruling_from_state, PerformsLines, LineAhead, LinePassed, OpenEnsures}
 use Rattle.text.specs.List.{GateEnsures, GateRequires, GatesRequires, GatesLoop, GateLines, GatesEnsures}
 use Rattle.text.specs.List.{GateList, gate_list, GatesReached, ListEnds, next_line, ListRequires, ListEnsures}
 use Rattle.text.specs.SplitLaws.{ends_from}
 use Rattle.text.specs.CheckListsLaws.{gate_next}
-use Rattle.text.specs.declared.perform.PerformState.{PerformState}
-use Rattle.text.specs.declared.list.ListState.{ListState}
 use Rattle.diagram.specs.declared.gate.Gate.{Gate}
 use Rattle.text.specs.declared.call.Call.{Call}
 use Rattle.text.specs.declared.check.Item.{Item}
@@ -270,3 +268,9 @@ list_ensures {l} {s} {c₁} {s₁} {c'} {s'} {a} {x} {y} m o w =
     ends gs rest ls z =
         let v = w.ends gs rest (gate_lines_next o.passes ls) z in
         record { next = v.next; line = omega (arith, v.line, o.passes.line) }
+
+-- the head line was refused: no gate line is run
+pub list_refused : {l : GateList} {s c₁ s₁ : List ℕ} {a x : ListState} → ListRequires l a → length s₁ ≡ length s
+    → OpenEnsures l.text l.qubits l.register s c₁ s₁ a x → x.refused ≡ true → ListEnsures l s c₁ s₁ a x
+list_refused f m o q =
+    list_ensures m o (gates_loop_refused (gates_loop_start o.performs.invariant (gates_ahead f o)) q)

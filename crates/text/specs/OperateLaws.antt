@@ -20,7 +20,7 @@ module _ {s : List ℕ} {e : Contents} {d : ℕ} {b test : Bool} {f : Step indic
     small = tt;
     is = rw (← told, q);
     refused = λ no. record { nodes = refl; registers = refl };
-    forgets = refused_forgets Depends (λ z. omega arith);
+    forgets = refused_forgets e Depends (λ z. omega arith);
   }
 
   pub unless_sets : {c' s' : List ℕ} {r : Reply} → b ≡ false → SetsRegister c' s s' e d f r

@@ -1,17 +1,24 @@
 -- The calls of a verdict's session until one is refused, as the code runs them: one, or a gate's as one step.
-use Rattle.std.specs.Prelude.{cond, List, ◌++◌, ◌≡◌, ℕ}
+use Rattle.std.specs.Prelude.{cond, List, ◌++◌, ◌≡◌, ℕ, Bool, false, Result, ⊤}
+use Rattle.std.specs.Result.{is_err}
 use Rattle.diagram.specs.Node.{capacity}
 use Rattle.text.specs.Session.{Capacity, at_most}
-use Rattle.text.specs.VerdictSession.{NumberedCall, perform, ruling_at_end, at_line, continue_with}
-use Rattle.text.specs.Engine.{tally_of, EngineInvariant}
+use Rattle.text.specs.VerdictSession.{NumberedCall, perform, ruling_at_end, at_line}
+use Rattle.text.specs.Answer.{is_no}
+use Rattle.text.specs.Engine.{Contents, contents, tally_of, EngineInvariant}
 use Rattle.text.specs.Apply.{drop_collect}
-use Rattle.text.specs.declared.perform.PerformState.{PerformState}
+use Rattle.text.specs.declared.answer.Answer.{Answer}
+use Rattle.text.specs.declared.call.Refusal.{Refusal}
 use Rattle.text.specs.declared.ruling.Ruling.{Ruling}
 use Rattle.text.specs.declared.ruling.Ruling.TheVariants.{No}
 use Rattle.text.specs.declared.check.Fault.TheVariants.{Full}
 use Rattle.text.specs.declared.call.Call.{Call}
 use Rattle.text.specs.declared.engine.Engine.{Engine}
-use Rattle.text.specs.declared.engine.Reply.{Reply}
+
+-- whether a call was refused, and what the calls before it leave
+pub record PerformState : Type 0 where
+  pub refused : Bool
+  pub engine : Contents
 
 -- the final ruling from here: the calls before were refused at `line`, or others follow
 unfoldable pub ruling_from : Capacity → ℕ → List NumberedCall → List ℕ → PerformState → Ruling
@@ -26,13 +33,20 @@ pub record PerformsCalls (s c' s' : List ℕ) (a : PerformState) (xs : List Call
       s' r
 
 -- "`drop 2`, `collect`"
-pub record DropCollectEnsures (s c' s' : List ℕ) (e r : Engine) : Type 0 where
+pub record DropCollectEnsures (s c' s' : List ℕ) (e r : Contents) : Type 0 where
   pub invariant : EngineInvariant c' s' r
   pub is : tally_of s' r ≡ drop_collect (tally_of s e)
 
--- What follows a gate's step, whatever its line and whatever follows: the calls after it, or the refusal.
-pub record FinishEnsures (s c' s' : List ℕ) (y : Reply) (x : PerformState) : Type 0 where
-  pub invariant : EngineInvariant c' s' x.engine
-  pub is : (c : Capacity) (line : ℕ) (more : List NumberedCall)
-      → ruling_at_end c (continue_with line (y.answer, tally_of s y.engine) (λ t. perform c more (drop_collect t)))
-      ≡ ruling_from c line more s' x
+-- the answer is a refusal exactly where there is an error
+abbrev pub Accepts : Answer → Result ⊤ Refusal → Type 0
+Accepts a r = is_err r ≡ is_no a
+
+-- the same, of an engine e before the calls and e' after them, none of the calls before them refused
+
+abbrev pub Performs : Engine → Engine → List Call → Result ⊤ Refusal → Type 0
+Performs e e' xs r = PerformsCalls e.diagram.now.store.now e'.diagram.now.cache.now e'.diagram.now.store.now
+    (record { refused = false; engine = contents e }) xs (record { refused = is_err r; engine = contents e' })
+
+abbrev pub DropsAndCollects : Engine → Engine → Type 0
+DropsAndCollects e e' = DropCollectEnsures e.diagram.now.store.now e'.diagram.now.cache.now e'.diagram.now.store.now (contents e)
+    (contents e')

@@ -17,9 +17,9 @@ use Rattle.text.specs.Session.{with_answer, node_count, at_most, TallyRun, run, 
 use Rattle.text.specs.Session as tally
 use Rattle.text.specs.Agrees.{line, Agrees, Passes, before_stop, start, OneLine, AgreesThroughout}
 use Rattle.text.specs.Split.{part, Ends}
-use Rattle.text.specs.Engine.{tally_of, EngineInvariant, EngineStartEnsures}
+use Rattle.text.specs.Engine.{Contents, Reply, tally_of, EngineInvariant, EngineStartEnsures}
 use Rattle.text.specs.Respond.{RespondEnsures}
-use Rattle.text.specs.Progress.{run_of, AnswerLineEnsures, ResumeLineEnsures, result_of, result_at_start, run_from}
+use Rattle.text.specs.Progress.{RunState, run_of, AnswerLineEnsures, ResumeLineEnsures, result_of, result_at_start, run_from}
 use Rattle.text.specs.Progress.{ResumeEnsures, ResumeLoop, stopped_progress, ResumeLineRequires}
 use Rattle.text.specs.SplitLaws.{drop_further, drop_take, take_more, get_or_next, drop_one, ends_from, lines_first}
 use Rattle.text.specs.SplitLaws.{lines_none, lines_count}
@@ -28,14 +28,11 @@ use Rattle.text.specs.SessionLaws.{run_append}
 use Rattle.text.specs.AgreesLaws.{node_tensors_lem, same_filled, filled_valid, empty_zero, is_node, weight_times_node}
 use Rattle.text.specs.AgreesLaws.{same_exactly, no_multiples}
 use Rattle.text.specs.declared.call.Call.{Call}
-use Rattle.text.specs.declared.engine.Reply.{Reply}
-use Rattle.text.specs.declared.progress.Progress.{Progress}
-use Rattle.text.specs.declared.engine.Engine.{Engine}
 use Rattle.text.specs.declared.progress.SessionResult.{SessionResult}
 
 -- a line
 
-pub answer_line_ensures : {line : Bytes} {next : ℕ} {s c' s' : List ℕ} {o o' : Bytes} {p : Progress} {x : Call}
+pub answer_line_ensures : {line : Bytes} {next : ℕ} {s c' s' : List ℕ} {o o' : Bytes} {p : RunState} {x : Call}
     {y : Reply}
     {n : ℕ} → LineRead line x
     → RespondEnsures c' s s' p.engine x y → AnswerWritten o p.bytes y.answer o' n
@@ -65,13 +62,13 @@ answer_line_ensures {line} {next} {s} {c'} {s'} {o} {o'} {p} {x} {y} {n} l r w h
       refused = λ no. r.refused (sym (ap (λ z. is_no z.0) r.is) ∙ rw l.call no);
     }
 
-pub resume_line_less : {text : Bytes} {s c' s' : List ℕ} {o o' : Bytes} {p r : Progress} → p.place < length text
+pub resume_line_less : {text : Bytes} {s c' s' : List ℕ} {o o' : Bytes} {p r : RunState} → p.place < length text
     → ResumeLineEnsures text s c' s' o o' p r
     → length text + 1 - r.place < length text + 1 - p.place
 resume_line_less h w = omega (arith, w.ends.from, w.answered.place)
 
 -- the run has come to p
-agrees_now : {c s : List ℕ} {o o₀ : Bytes} (p : Progress) → EngineInvariant c s p.engine → p.bytes ≤ length o
+agrees_now : {c s : List ℕ} {o o₀ : Bytes} (p : RunState) → EngineInvariant c s p.engine → p.bytes ≤ length o
     → drop p.bytes o ≡ drop p.bytes o₀ → Agrees s o₀ o (result_of p) (run_of s o p)
 unfolding run_of tally_of node_count written
 agrees_now {s = s} {o} {o₀} p h b u = record {
@@ -93,7 +90,7 @@ agrees_now {s = s} {o} {o₀} p h b u = record {
   code = refl;
 }
 
-resume_ensures : {text : Bytes} {limit : ℕ} {e : Engine} {s₀ c s : List ℕ} {o₀ o : Bytes} {p : Progress}
+resume_ensures : {text : Bytes} {limit : ℕ} {e : Contents} {s₀ c s : List ℕ} {o₀ o : Bytes} {p : RunState}
     → EngineInvariant c s p.engine
     → p.bytes ≤ length o → lines (drop p.place text) ≡ drop p.lines (lines text)
     → drop p.bytes o ≡ drop p.bytes o₀
@@ -120,7 +117,7 @@ resume_ensures {e = e} {s₀ = s₀} {s = s} {o₀ = o₀} {o} {p} h b r u k w q
 -- the loop
 
 -- a run that goes on has the code 0
-not_stopped : (p : Progress) → p.code ≡ 0 → result_of p ≡ before_stop (result_of p)
+not_stopped : (p : RunState) → p.code ≡ 0 → result_of p ≡ before_stop (result_of p)
 not_stopped p e =
     λ i. record {
       code = e i;
@@ -130,7 +127,7 @@ not_stopped p e =
       registers = p.engine.registers;
     }
 
-pub resume_loop_start : {text : Bytes} {limit : ℕ} {e : Engine} {c s : List ℕ} {o : Bytes} → EngineInvariant c s e
+pub resume_loop_start : {text : Bytes} {limit : ℕ} {e : Contents} {c s : List ℕ} {o : Bytes} → EngineInvariant c s e
     → ResumeLoop text limit e s o c s o (record { code = 0; lines = 0; bytes = 0; place = 0; engine = e })
 unfolding run_of run_from run
 resume_loop_start {e = e} {o = o} p = record {
@@ -150,7 +147,7 @@ resume_loop_start {e = e} {o = o} p = record {
       refl);
 }
 
-module _ {text : Bytes} {limit : ℕ} {e : Engine} {s₀ : List ℕ} {o₀ : Bytes} {c s : List ℕ} {o : Bytes} {p : Progress}
+module _ {text : Bytes} {limit : ℕ} {e : Contents} {s₀ : List ℕ} {o₀ : Bytes} {c s : List ℕ} {o : Bytes} {p : RunState}
     (g : ResumeLoop text limit e s₀ o₀ c s o p) where
   -- the lines that may be answered, and the tally's run of some lines
   abbrev allowed : List Bytes
@@ -204,7 +201,7 @@ module _ {text : Bytes} {limit : ℕ} {e : Engine} {s₀ : List ℕ} {o₀ : Byt
         ∙ run_append (at_most (capacity s₀)) (length o₀) (take p.lines allowed) (drop p.lines allowed) from
         ∙ ap (runs (drop p.lines allowed)) g.now ∙ ap (λ ls. runs ls (run_of s o p)) next_line_lem
 
-  module _ {c' s' : List ℕ} {o' : Bytes} {r : Progress} (h : p.place < length text) (m : p.lines ≢ limit)
+  module _ {c' s' : List ℕ} {o' : Bytes} {r : RunState} (h : p.place < length text) (m : p.lines ≢ limit)
       (t : ResumeLineRequires text o p)
       (u : length s' ≡ length s) (v : length o' ≡ length o) (w : ResumeLineEnsures text s c' s' o o' p r) where
     abbrev a : AnswerLineEnsures (part text p.place w.end) (w.end + 1) s c' s' o o' p r
@@ -274,7 +271,7 @@ module _ {text : Bytes} {limit : ℕ} {e : Engine} {s₀ : List ℕ} {o₀ : Byt
   pub resume_loop_limit : p.lines ≡ limit → ResumeEnsures text limit e s₀ c s o₀ o p
   resume_loop_limit h = run_ended (take-take p.lines limit (lines text) g.few ∙ ap (λ n. take n (lines text)) h)
 
-  pub resume_loop_stop : {r : Progress} → p.place < length text → p.lines ≢ limit → length o - p.bytes < answer_room
+  pub resume_loop_stop : {r : RunState} → p.place < length text → p.lines ≢ limit → length o - p.bytes < answer_room
       → r ≡ stopped_progress p → ResumeEnsures text limit e s₀ c s o₀ o r
   unfolding run_of tally.stopped_run
   resume_loop_stop h m n q =
@@ -285,13 +282,13 @@ module _ {text : Bytes} {limit : ℕ} {e : Engine} {s₀ : List ℕ} {o₀ : Byt
       ∙ rw (lt-leb (p.bytes + answer_room) (length o₀) (omega (arith, g.size, g.bytes)))))
 
 -- a session from the start
-pub work_agrees : {text : Bytes} {limit : ℕ} {e : Engine} {c₁ s₁ c' s' : List ℕ} {o o' : Bytes} {p : Progress}
+pub work_agrees : {text : Bytes} {limit : ℕ} {e : Contents} {c₁ s₁ c' s' : List ℕ} {o o' : Bytes} {p : RunState}
     {r : SessionResult}
-    (s : List ℕ) → EngineStartEnsures c₁ s₁ e → length s₁ ≡ length s
+    (s : List ℕ) → EngineStartEnsures c₁ s s₁ e
     → ResumeEnsures text limit e s₁ c' s' o o' p → r ≡ result_of p
     → AgreesThroughout (at_most (capacity s)) (take limit (lines text)) empty_run s' o o' r
 unfolding run_from empty_run
-work_agrees s b l w q = rw (q, ← l, ← b.is) w.agrees
+work_agrees s b w q = rw (q, ← b.long, ← b.is) w.agrees
 
 -- a text has no more lines than bytes
 pub session_agrees : (text : Bytes) (s : List ℕ) {s' : List ℕ} {o o' : Bytes} {r : SessionResult}

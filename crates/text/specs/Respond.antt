@@ -36,5 +36,5 @@ pub record RespondEnsures (c' s s' : List ℕ) (e : Contents) (x : Call) (r : Re
 
 -- the same, of an engine e before the call and e' after it
 abbrev pub Responds : Engine → Engine → Call → Answer → Type 0
-Responds e e' x a = RespondEnsures e'.diagram.cache.now e.diagram.store.now e'.diagram.store.now (contents e) x
+Responds e e' x a = RespondEnsures e'.diagram.now.cache.now e.diagram.now.store.now e'.diagram.now.store.now (contents e) x
     (reply a e')

@@ -1,5 +1,6 @@
 -- Laws of Respond: the operands, and the refusals in order.
-use Rattle.std.specs.Prelude.{Some}
+use Rattle.std.specs.Prelude.{Some, Result}
+use Rattle.std.specs.Prelude as prelude
 use Rattle.std.specs.Prelude.{◌≡◌, ◌≢◌, Bool, false, cond, ◌-◌, ℕ, ◌<◌, set}
 use Rattle.std.proofs.Common.{subst, ◌∙◌, arith}
 use Rattle.std.proofs.Math.Path.{sym, ap, refl}
@@ -25,25 +26,22 @@ use Rattle.text.specs.Call.{InRange, refusal_number}
 use Rattle.text.specs.Answer.{is_no, SmallAnswer}
 use Rattle.text.specs.Session.{TallyReply, refuse, with_tensor, with_register, at_most, answer, settle, comparison}
 use Rattle.text.specs.Session.{node_count, accept}
-use Rattle.text.specs.Engine.{EngineInvariant, tally_of, RefuseEnsures, FullForgets, SetsRegister, SettleEnsures}
+use Rattle.text.specs.Engine.{Contents, Reply, EngineInvariant, tally_of, FullForgets, SetsRegister, SettleEnsures}
 use Rattle.text.specs.Operate.{SetsUnless}
-use Rattle.text.specs.Respond.{RespondEnsures, ReadEnsures, PureEnsures, Forgets}
+use Rattle.text.specs.Respond.{RespondEnsures, Forgets}
 use Rattle.text.specs.EngineLaws.{sets_register_constant, sets_register_step, never_full}
 use Rattle.text.specs.declared.call.Call.{Call}
-use Rattle.text.specs.declared.engine.Engine.{Engine}
-use Rattle.text.specs.declared.engine.Reply.{Reply}
 use Rattle.diagram.specs.declared.node.Edge.{Edge}
 use Rattle.text.specs.declared.call.Refusal.TheVariants.{Empty, Depends}
 use Rattle.text.specs.declared.answer.Answer.{Answer}
 use Rattle.text.specs.declared.answer.Answer.TheVariants.{Ok, No, Value, Same, Factor, Differ, Mask}
 use Rattle.text.specs.declared.call.Refusal.{Refusal}
-use Rattle.diagram.specs.declared.join.Outcome.{Outcome}
 use Rattle.diagram.specs.declared.gate.Gate.{Gate}
 use Rattle.diagram.specs.declared.compare.Comparison.{Comparison}
 use Rattle.diagram.specs.declared.registers.Registers.{Registers}
 use Rattle.diagram.specs.declared.make.State.{State}
 use Rattle.text.specs.declared.call.Call.TheVariants as call
-use Rattle.diagram.specs.declared.join.Outcome.TheVariants as outcome
+use Rattle.diagram.specs.declared.diagram.Full as steps
 use Rattle.diagram.specs.declared.compare.Comparison.TheVariants as compare
 
 -- what a call's line said, case by case
@@ -51,23 +49,13 @@ use Rattle.diagram.specs.declared.compare.Comparison.TheVariants as compare
 pub ranged_as : {x : Call} (y : Call) → InRange y → y ≡ x → InRange x
 ranged_as y r e = subst InRange e r
 
-pub responds_as : {c' s s' : List ℕ} {e : Engine} {x y : Call} {r : Reply} → y ≡ x → RespondEnsures c' s s' e x r
+pub responds_as : {c' s s' : List ℕ} {e : Contents} {x y : Call} {r : Reply} → y ≡ x → RespondEnsures c' s s' e x r
     → RespondEnsures c' s s' e y r
 responds_as {c'} {s} {s'} {e} {r = r} q h = subst (λ z. RespondEnsures c' s s' e z r) (sym q) h
 
-pub read_ensures_as : {c s : List ℕ} {e : Engine} {x y : Call} {r : Reply} → EngineInvariant c s e → y ≡ x
-    → ReadEnsures s e x r
-    → RespondEnsures c s s e y r
-read_ensures_as {c} p q h = responds_as q (h.on c p)
-
-pub pure_ensures_as : {c s : List ℕ} {e : Engine} {x y : Call} {r : Reply} → EngineInvariant c s e → y ≡ x
-    → PureEnsures e x r
-    → RespondEnsures c s s e y r
-pure_ensures_as {s = s} p q h = read_ensures_as p q (h.on s)
-
 -- an operand
 
-module _ (s : List ℕ) (e : Engine) {a : ℕ} {h : Register} (r : GetEnsures e.registers.all a h)
+module _ (s : List ℕ) (e : Contents) {a : ℕ} {h : Register} (r : GetEnsures e.registers.all a h)
     (f : Tensor indices → TallyReply indices) where
   pub operand : {x : Edge} → h ≡ Some x → with_register (tally_of s e) a f ≡ f (tensor_of s e.state x)
   unfolding with_register with_tensor tally_of tensor_of holds
@@ -88,97 +76,92 @@ refusal_of_answer (Factor f) = 0
 refusal_of_answer Differ = 0
 refusal_of_answer (Mask m) = 0
 
--- a refusal with another number is not as full
-pub refused_forgets : {c : List ℕ} {e : Engine} {r : Reply} (why : Refusal) → refusal_number why ≢ 8
-    → RefuseEnsures e why r → FullForgets c r
-refused_forgets why n f q = absurd (n (ap refusal_of_answer (sym f.answer ∙ q)))
+-- what a refusal leaves that has begun nothing
+abbrev refused_by : Refusal → Contents → Reply
+refused_by why e = record { answer = No why; engine = e }
 
-module _ {c s : List ℕ} {e : Engine} {r : Reply} (p : EngineInvariant c s e) where
-  pub respond_refused : {x : Call} {why : Refusal} → Forgets x c r → RefuseEnsures e why r
-      → answer (at_most (capacity s)) x (tally_of s e) ≡ refuse why (tally_of s e) → RespondEnsures c s s e x r
+-- a refusal with another number is not as full
+pub refused_forgets : {c : List ℕ} (e : Contents) (why : Refusal) → refusal_number why ≢ 8
+    → FullForgets c (record { answer = No why; engine = e })
+refused_forgets e why n q = absurd (n (ap refusal_of_answer q))
+
+module _ {c s : List ℕ} {e : Contents} (p : EngineInvariant c s e) where
+  respond_refused : {x : Call} (why : Refusal) → Forgets x c (refused_by why e)
+      → answer (at_most (capacity s)) x (tally_of s e) ≡ refuse why (tally_of s e)
+      → RespondEnsures c s s e x (refused_by why e)
   unfolding refuse
-  respond_refused {x} {why} n f q = record {
-    invariant = rw f.engine p;
-    small = rw f.answer tt;
-    is = rw (f.answer, f.engine) q;
-    refused = λ no. rw f.engine record { nodes = refl; registers = refl };
+  respond_refused why n q = record {
+    invariant = p;
+    small = tt;
+    is = q;
+    refused = λ no. record { nodes = refl; registers = refl };
     forgets = n;
   }
 
   -- an operand is empty: 3, which is not as full
-  refused_empty : {x : Call} → (FullForgets c r → Forgets x c r) → RefuseEnsures e Empty r
-      → answer (at_most (capacity s)) x (tally_of s e) ≡ refuse Empty (tally_of s e) → RespondEnsures c s s e x r
-  refused_empty forgets f q = respond_refused (forgets (refused_forgets Empty (λ z. omega arith) f)) f q
+  refused_empty : {x : Call} → (FullForgets c (refused_by Empty e) → Forgets x c (refused_by Empty e))
+      → answer (at_most (capacity s)) x (tally_of s e) ≡ refuse Empty (tally_of s e)
+      → RespondEnsures c s s e x (refused_by Empty e)
+  refused_empty forgets q = respond_refused Empty (forgets (refused_forgets e Empty (λ z. omega arith))) q
 
-  pub refused_line : {x : Call} {why : Refusal} → x ≡ call.Refused why → RefuseEnsures e why r
-      → RespondEnsures c s s e x r
+  pub refused_line : {x : Call} {why : Refusal} → x ≡ call.Refused why
+      → RespondEnsures c s s e x (record { answer = No why; engine = e })
   unfolding answer
-  refused_line q f = respond_refused (rw q tt) f (rw q)
+  refused_line {why = why} q = respond_refused why (rw q tt) (rw q)
 
-  module _ {a : ℕ} {h : Register} (g : GetEnsures e.registers.all a h) (q : h ≡ empty_register)
-      (f : RefuseEnsures e Empty r) where
-    pub empty_add : {d b : ℕ} → RespondEnsures c s s e (call.Add d a b) r
+  module _ {a : ℕ} {h : Register} (g : GetEnsures e.registers.all a h) (q : h ≡ empty_register) where
+    pub empty_add : {d b : ℕ} → RespondEnsures c s s e (call.Add d a b) (record { answer = No Empty; engine = e })
     unfolding answer
-    empty_add = refused_empty (λ k. k) f (operand_empty s e g _ q)
+    empty_add = refused_empty (λ k. k) (operand_empty s e g _ q)
 
-    pub empty_cont : {d b m : ℕ} → RespondEnsures c s s e (call.Cont d a b m) r
+    pub empty_cont : {d b m : ℕ}
+        → RespondEnsures c s s e (call.Cont d a b m) (record { answer = No Empty; engine = e })
     unfolding answer
-    empty_cont = refused_empty (λ k. k) f (operand_empty s e g _ q)
+    empty_cont = refused_empty (λ k. k) (operand_empty s e g _ q)
 
-    pub empty_low : {d k : ℕ} → RespondEnsures c s s e (call.Low d a k) r
+    pub empty_low : {d k : ℕ} → RespondEnsures c s s e (call.Low d a k) (record { answer = No Empty; engine = e })
     unfolding answer
-    empty_low = refused_empty (λ k. k) f (operand_empty s e g _ q)
+    empty_low = refused_empty (λ k. k) (operand_empty s e g _ q)
 
-    pub empty_lows : {d m : ℕ} → RespondEnsures c s s e (call.Lows d a m) r
+    pub empty_lows : {d m : ℕ} → RespondEnsures c s s e (call.Lows d a m) (record { answer = No Empty; engine = e })
     unfolding answer
-    empty_lows = refused_empty (λ k. k) f (operand_empty s e g _ q)
+    empty_lows = refused_empty (λ k. k) (operand_empty s e g _ q)
+
+    pub empty_drop : RespondEnsures c s s e (call.Drop a) (record { answer = No Empty; engine = e })
+    unfolding answer
+    empty_drop = refused_empty (λ k. k) (operand_empty s e g _ q)
+
+    pub empty_at : {v : ℕ} → RespondEnsures c s s e (call.At a v) (record { answer = No Empty; engine = e })
+    unfolding answer
+    empty_at = refused_empty (λ k. k) (operand_empty s e g _ q)
+
+    pub empty_on : RespondEnsures c s s e (call.On a) (record { answer = No Empty; engine = e })
+    unfolding answer
+    empty_on = refused_empty (λ k. k) (operand_empty s e g _ q)
+
+    pub empty_cmp : {b : ℕ} → RespondEnsures c s s e (call.Cmp a b) (record { answer = No Empty; engine = e })
+    unfolding answer
+    empty_cmp = refused_empty (λ k. k) (operand_empty s e g _ q)
 
   -- the second operand
-  module _ {a b : ℕ} {h g : Register} {x : Edge} (i : GetEnsures e.registers.all a h)
-      (o : h ≡ Some x)
-      (j : GetEnsures e.registers.all b g) (q : g ≡ empty_register) (f : RefuseEnsures e Empty r) where
-    pub empty_add_2 : {d : ℕ} → RespondEnsures c s s e (call.Add d a b) r
+  module _ {a b : ℕ} {h g : Register} {x : Edge} (i : GetEnsures e.registers.all a h) (o : h ≡ Some x)
+      (j : GetEnsures e.registers.all b g) (q : g ≡ empty_register) where
+    pub empty_add_2 : {d : ℕ} → RespondEnsures c s s e (call.Add d a b) (record { answer = No Empty; engine = e })
     unfolding answer
-    empty_add_2 = refused_empty (λ k. k) f (operand s e i _ o ∙ operand_empty s e j _ q)
+    empty_add_2 = refused_empty (λ k. k) (operand s e i _ o ∙ operand_empty s e j _ q)
 
-    pub empty_cont_2 : {d m : ℕ} → RespondEnsures c s s e (call.Cont d a b m) r
+    pub empty_cont_2 : {d m : ℕ}
+        → RespondEnsures c s s e (call.Cont d a b m) (record { answer = No Empty; engine = e })
     unfolding answer
-    empty_cont_2 = refused_empty (λ k. k) f (operand s e i _ o ∙ operand_empty s e j _ q)
+    empty_cont_2 = refused_empty (λ k. k) (operand s e i _ o ∙ operand_empty s e j _ q)
 
-module _ {e : Engine} {r : Reply} {a : ℕ} {h : Register} (g : GetEnsures e.registers.all a h) where
-  pub empty_drop : h ≡ empty_register → RefuseEnsures e Empty r → PureEnsures e (call.Drop a) r
-  unfolding answer
-  empty_drop q f =
-      record { on = λ s. record { on = λ c p. refused_empty p (λ k. k) f (operand_empty s e g _ q) } }
-
-  pub empty_at : {s : List ℕ} {v : ℕ} → h ≡ empty_register → RefuseEnsures e Empty r → ReadEnsures s e (call.At a v) r
-  unfolding answer
-  empty_at {s} q f = record { on = λ c p. refused_empty p (λ k. k) f (operand_empty s e g _ q) }
-
-  pub empty_on : {s : List ℕ} → h ≡ empty_register → RefuseEnsures e Empty r → ReadEnsures s e (call.On a) r
-  unfolding answer
-  empty_on {s} q f = record { on = λ c p. refused_empty p (λ k. k) f (operand_empty s e g _ q) }
-
-  pub empty_cmp : {b : ℕ} → h ≡ empty_register → RefuseEnsures e Empty r → PureEnsures e (call.Cmp a b) r
-  unfolding answer
-  empty_cmp q f =
-      record { on = λ s. record { on = λ c p. refused_empty p (λ k. k) f (operand_empty s e g _ q) } }
-
-  pub empty_cmp_2 : {b : ℕ} {k : Register} {x : Edge} → h ≡ Some x → GetEnsures e.registers.all b k
-      → k ≡ empty_register
-      → RefuseEnsures e Empty r
-      → PureEnsures e (call.Cmp a b) r
-  unfolding answer
-  empty_cmp_2 o j q f =
-      record {
-        on = λ s. record {
-          on = λ c p. refused_empty p (λ k. k) f (operand s e g _ o ∙ operand_empty s e j _ q);
-        };
-      }
+    pub empty_cmp_2 : RespondEnsures c s s e (call.Cmp a b) (record { answer = No Empty; engine = e })
+    unfolding answer
+    empty_cmp_2 = refused_empty (λ k. k) (operand s e i _ o ∙ operand_empty s e j _ q)
 
 -- the calls that set a register
 
-module _ {c' s s' : List ℕ} {e : Engine} {d : ℕ} {r : Reply} where
+module _ {c' s s' : List ℕ} {e : Contents} {d : ℕ} {r : Reply} where
   sets_register_as : {f : Step indices} {x : Call} → (FullForgets c' r → Forgets x c' r)
       → answer (at_most (capacity s)) x (tally_of s e) ≡ settle (at_most (capacity s)) d (f (set_of s e.state))
       (tally_of s e)
@@ -194,26 +177,27 @@ module _ {c' s s' : List ℕ} {e : Engine} {d : ℕ} {r : Reply} where
 
   module _ {c : List ℕ} (p : EngineInvariant c s e) where
     pub responds_put : {w : ℕ} → w < modulus
-        → SettleEnsures c s c' s' e d (outcome.Edge (record { weight = w; node = 0 }) e.state) r
+        → SettleEnsures c s c' s' e e.state d (prelude.Ok (record { weight = w; node = 0 })) r
         → RespondEnsures c' s s' e (call.Put d w) r
     unfolding answer return tally_of
     responds_put {w} small h =
         sets_register_as {f = return (constant indices (to_weight w))} (λ z. z) refl (sets_register_constant p small h)
 
-    pub responds_gate : {s₁ : List ℕ} {m : Outcome} {g : Gate}
-        → Refines s s₁ e.state (build (gate_tensor indices g)) m
-        → SettleEnsures c s₁ c' s' e d m r
+    pub responds_gate : {c₁ s₁ : List ℕ} {t : State} {m : Result Edge steps.Full} {g : Gate} → c₁ ≡ c
+        → Refines s s₁ e.state t (build (gate_tensor indices g)) m
+        → SettleEnsures c₁ s₁ c' s' e t d m r
         → RespondEnsures c' s s' e (call.Gate d g) r
     unfolding answer tally_of
-    responds_gate {g = g} w h = sets_register_as {f = build (gate_tensor indices g)} (λ z. z) refl
-        (sets_register_step p _ w h)
+    responds_gate {g = g} k w h = sets_register_as {f = build (gate_tensor indices g)} (λ z. z) refl
+        (sets_register_step p _ k w h)
 
-    pub responds_unit : {s₁ : List ℕ} {m : Outcome} {n : ℕ} → Refines s s₁ e.state (build (unit_tensor indices n)) m
-        → SettleEnsures c s₁ c' s' e d m r
+    pub responds_unit : {c₁ s₁ : List ℕ} {t : State} {m : Result Edge steps.Full} {n : ℕ} → c₁ ≡ c
+        → Refines s s₁ e.state t (build (unit_tensor indices n)) m
+        → SettleEnsures c₁ s₁ c' s' e t d m r
         → RespondEnsures c' s s' e (call.Unit d n) r
     unfolding answer tally_of
-    responds_unit {n = n} w h = sets_register_as {f = build (unit_tensor indices n)} (λ z. z) refl
-        (sets_register_step p _ w h)
+    responds_unit {n = n} k w h = sets_register_as {f = build (unit_tensor indices n)} (λ z. z) refl
+        (sets_register_step p _ k w h)
 
   module _ {a b : ℕ} {h g : Register} {x y : Edge} (i : GetEnsures e.registers.all a h)
       (o : h ≡ Some x)
@@ -231,7 +215,7 @@ module _ {c' s s' : List ℕ} {e : Engine} {d : ℕ} {r : Reply} where
 
 -- the calls that set it unless they are refused by 7
 
-module _ {c' s s' : List ℕ} {e : Engine} {d a : ℕ} {h : Register} {x : Edge} {r : Reply}
+module _ {c' s s' : List ℕ} {e : Contents} {d a : ℕ} {h : Register} {x : Edge} {r : Reply}
     (i : GetEnsures e.registers.all a h) (o : h ≡ Some x) where
   sets_unless_as : {test : Bool} {f : Step indices} {y : Call} → (FullForgets c' r → Forgets y c' r)
       → answer (at_most (capacity s)) y (tally_of s e) ≡ cond test (refuse Depends (tally_of s e))
@@ -279,7 +263,7 @@ small_comparison A B (compare.Factor f) n = omega (arith, n.small)
 small_comparison A B compare.Differ n = tt
 
 -- a call that answers n and leaves everything as it was
-answers_only : {c s : List ℕ} {e : Engine} {x : Call} {n : Answer} → EngineInvariant c s e → SmallAnswer n
+answers_only : {c s : List ℕ} {e : Contents} {x : Call} {n : Answer} → EngineInvariant c s e → SmallAnswer n
     → answer (at_most (capacity s)) x (tally_of s e) ≡ (n, tally_of s e)
     → Forgets x c (record { answer = n; engine = e })
     → RespondEnsures c s s e x (record { answer = n; engine = e })
@@ -292,60 +276,51 @@ answers_only p small is forgets =
       forgets = forgets;
     }
 
-module _ {e : Engine} {a : ℕ} {h : Register} {x : Edge} (i : GetEnsures e.registers.all a h)
+module _ {c s : List ℕ} {e : Contents} {a : ℕ} {h : Register} {x : Edge} (p : EngineInvariant c s e)
+    (i : GetEnsures e.registers.all a h)
     (o : h ≡ Some x) where
   pub responds_drop : {rs : Registers} → rs.all ≡ set e.registers.all a empty_register
-      → PureEnsures e (call.Drop a)
+      → RespondEnsures c s s e (call.Drop a)
       (record { answer = Ok e.state.count; engine = record { state = e.state; registers = rs } })
   unfolding answer accept node_count tally_of holds
-  responds_drop {rs} q = record { on = λ s. record { on = λ c p. on c s p } }
-    where
-      on : (c s : List ℕ) → EngineInvariant c s e
-          → RespondEnsures c s s e (call.Drop a)
-          (record { answer = Ok e.state.count; engine = record { state = e.state; registers = rs } })
-      on c s p = record {
-        invariant = invariant_clear a p q;
-        small = omega (arith, p.sound.stored.numbered);
-        is = operand s e i _ o
-            ∙ rw (set_length s e.state, q, holds_set (set_of s e.state) e.registers.all a empty_register);
-        refused = λ no. absurd (false≢true no);
-        forgets = never_full (Ok e.state.count) refl;
-      }
-
-  pub responds_at : {s : List ℕ} {v w : ℕ} → Represents w (value (tensor_of s e.state x) v)
-      → ReadEnsures s e (call.At a v) (record { answer = Value w; engine = e })
-  unfolding answer
-  responds_at {s} {v} {w} n = record {
-    on = λ c p. answers_only p (omega (arith, n.small))
-        (operand s e i _ o ∙ ap (λ n. (Value n, tally_of s e)) (sym (represents_number n))) (never_full (Value w) refl);
+  responds_drop {rs} q = record {
+    invariant = invariant_clear a p q;
+    small = omega (arith, p.sound.stored.numbered);
+    is = operand s e i _ o
+        ∙ rw (set_length s e.state, q, holds_set (set_of s e.state) e.registers.all a empty_register);
+    refused = λ no. absurd (false≢true no);
+    forgets = never_full (Ok e.state.count) refl;
   }
 
-  pub responds_on : {s : List ℕ} {m : ℕ} → m ≡ support_mask (tensor_of s e.state x) → m < masks
-      → ReadEnsures s e (call.On a) (record { answer = Mask m; engine = e })
+  pub responds_at : {v w : ℕ} → Represents w (value (tensor_of s e.state x) v)
+      → RespondEnsures c s s e (call.At a v) (record { answer = Value w; engine = e })
   unfolding answer
-  responds_on {s} {m} is small = record {
-    on = λ c p. answers_only p (omega (arith, small))
-        (operand s e i _ o ∙ ap (λ n. (Mask n, tally_of s e)) (sym is)) (never_full (Mask m) refl);
-  }
+  responds_at {v} {w} n =
+      answers_only p (omega (arith, n.small))
+      (operand s e i _ o ∙ ap (λ n. (Value n, tally_of s e)) (sym (represents_number n))) (never_full (Value w) refl)
+
+  pub responds_on : {m : ℕ} → m ≡ support_mask (tensor_of s e.state x) → m < masks
+      → RespondEnsures c s s e (call.On a) (record { answer = Mask m; engine = e })
+  unfolding answer
+  responds_on {m} is small =
+      answers_only p (omega (arith, small))
+      (operand s e i _ o ∙ ap (λ n. (Mask n, tally_of s e)) (sym is)) (never_full (Mask m) refl)
 
   pub responds_cmp : {b : ℕ} {g : Register} {y : Edge} {r : Comparison} {n : Answer}
       → GetEnsures e.registers.all b g → g ≡ Some y
-      → CompareEnsures x y r → n ≡ comparison r → PureEnsures e (call.Cmp a b) (record { answer = n; engine = e })
+      → CompareEnsures x y r → n ≡ comparison r
+      → RespondEnsures c s s e (call.Cmp a b) (record { answer = n; engine = e })
   unfolding answer
-  responds_cmp {b} {g} {y} {r} {n} j q w m = record { on = λ s. record { on = λ c p. on c s p } }
-    where
-      on : (c s : List ℕ) → EngineInvariant c s e
-          → RespondEnsures c s s e (call.Cmp a b) (record { answer = n; engine = e })
-      on c s p =
-          let t : compared (tensor_of s e.state x) (tensor_of s e.state y) ≡ r =
-          w.is s e.state p.sound (read_valid h p.registers i o) (read_valid g p.registers j q) in
-          answers_only p
-          (subst SmallAnswer (sym m) (small_comparison _ _ r
-          (subst (ComparisonMeans _ _) t (compared_means (tensor_of s e.state x) (tensor_of s e.state y)))))
-          (operand s e i _ o ∙ operand s e j _ q ∙ ap (λ z. (z, tally_of s e)) (ap comparison t ∙ sym m))
-          (never_full n (ap is_no m ∙ comparison_accepted r))
+  responds_cmp {b} {g} {y} {r} {n} j q w m =
+      let t : compared (tensor_of s e.state x) (tensor_of s e.state y) ≡ r =
+      w.is s e.state p.sound (read_valid h p.registers i o) (read_valid g p.registers j q) in
+      answers_only p
+      (subst SmallAnswer (sym m) (small_comparison _ _ r
+      (subst (ComparisonMeans _ _) t (compared_means (tensor_of s e.state x) (tensor_of s e.state y)))))
+      (operand s e i _ o ∙ operand s e j _ q ∙ ap (λ z. (z, tally_of s e)) (ap comparison t ∙ sym m))
+      (never_full n (ap is_no m ∙ comparison_accepted r))
 
-pub responds_collect : {c' s s' : List ℕ} {e : Engine} {st : State} {rs : Registers}
+pub responds_collect : {c' s s' : List ℕ} {e : Contents} {st : State} {rs : Registers}
     → CollectEnsures c' s s' e.state st e.registers.all rs.all
     → RespondEnsures c' s s' e call.Collect
     (record { answer = Ok st.count; engine = record { state = st; registers = rs } })

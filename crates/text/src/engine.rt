@@ -3,40 +3,36 @@ ghost use Rattle.std.specs.Prelude.{◌≡◌, ◌<◌};
 ghost use Rattle.diagram.specs.Restore.{RollbackRequires};
 ghost use Rattle.diagram.specs.Diagram.{KeepsLoans};
 ghost use Rattle.text.specs.Limits.{register_count};
-ghost use Rattle.text.specs.Engine.{EngineStartEnsures, contents, RefusesFull, MaySettle, Settles};
+ghost use Rattle.text.specs.Engine.{KeepsEngine, Starts, RefusesFull, MaySettle, Settles};
 
 use crate::answer::Answer;
 use crate::call::Refusal;
 use diagram::diagram::{Diagram, Full};
 use diagram::make::State;
 use diagram::node::Edge;
-use diagram::registers;
 use diagram::registers::{RegisterNumber, Registers};
 
+// A diagram and the registers that hold edges of it.
 #[derive(Drop)]
-pub struct Engine<'a> {
-    pub diagram: Diagram<'a>,
+pub struct Engine<'b, 'a> {
+    pub diagram: &'b mut Diagram<'a>,
     pub registers: Registers,
 }
 
-impl<'a> Engine<'a> {
+impl<'b, 'a> Engine<'b, 'a> {
     // "A session starts with no nodes and empty registers."
-    pub fn start(store: &'a mut [u8], cache: &'a mut [u64]) -> Engine<'a>
-        ensures lent { (result.diagram.store.ghost_name ≡ store.entry.ghost_name)
-            × (result.diagram.cache.ghost_name ≡ cache.entry.ghost_name) }
-        ensures start { EngineStartEnsures result.diagram.cache.now store.old result.diagram.store.now
-            (contents result) }
+    pub fn start(&mut self)
+        ensures loans { KeepsEngine self.old self.new }
+        ensures start { Starts self.old self.new }
     {
-        Engine {
-            diagram: Diagram::start(store, cache),
-            registers: registers::empty(),
-        }
+        self.diagram.start();
+        self.registers = Registers::empty();
     }
 
     // 8: the nodes as before the call, and nothing that it remembered is used.
     fn refuse_full(&mut self, before: State) -> Answer
-        requires { RollbackRequires self.old.diagram.cache.now self.old.diagram.store.now before }
-        ensures loans { KeepsLoans self.old.diagram self.new.diagram }
+        requires { RollbackRequires self.old.diagram.now.cache.now self.old.diagram.now.store.now before }
+        ensures loans { KeepsEngine self.old self.new }
         ensures refuses { RefusesFull self.old self.new before result }
     {
         self.diagram.rollback(before);
@@ -52,13 +48,13 @@ impl<'a> Engine<'a> {
         step: Result<Edge, Full>,
     ) -> Answer
         requires { MaySettle self.old before step × (d < register_count) }
-        ensures loans { KeepsLoans self.old.diagram self.new.diagram }
+        ensures loans { KeepsEngine self.old self.new }
         ensures settles { Settles self.old self.new before d step result }
     {
         let Ok(e) = step else {
             return self.refuse_full(before);
         };
-        self.registers = registers::put(self.registers, d, e);
+        self.registers.put(d, e);
         Answer::Ok(self.diagram.state.count)
     }
 }

@@ -1,22 +1,22 @@
 // The verdict on a text (document 01, "Verdicts"): every line is read, both lists are run, and their registers are
 // compared.
 ghost use Rattle.std.specs.Prelude.{◌≡◌, ◌≤◌};
-ghost use Rattle.diagram.specs.Registers.{RegistersValid};
 ghost use Rattle.text.specs.Limits.{most_qubits};
 ghost use Rattle.text.specs.Check.{GoodText};
-ghost use Rattle.text.specs.List.{gate_list, ListRequires};
+ghost use Rattle.text.specs.List.{IsLists, ListAhead};
 ghost use Rattle.text.specs.VerdictSession.{ruling_of_answer};
-ghost use Rattle.text.specs.Judge.{CompareListsEnsures, SecondEnsures, JudgeEnsures, VerdictEnsures};
-ghost use Rattle.text.specs.Engine.{EngineInvariant};
+ghost use Rattle.text.specs.Judge.{JudgesSecond, JudgeEnsures, VerdictEnsures};
 
 use crate::answer::Answer;
 use crate::check::{CheckResult, Fault};
 use crate::engine::Engine;
 use crate::limits::{LineNumber, VERDICT_ROOM};
-use crate::list::ListState;
+use crate::list::Lists;
 use crate::ruling::{Ruling, VerdictResult};
-use crate::{check, engine, list, respond, ruling};
+use crate::{check, ruling};
+use diagram::diagram::Diagram;
 use diagram::gate::QubitCount;
+use diagram::registers::Registers;
 
 fn ruling_of(answer: Answer) -> Ruling
     ensures { result ≡ ruling_of_answer answer }
@@ -32,34 +32,16 @@ fn ruling_of(answer: Answer) -> Ruling
     }
 }
 
-// "then `cmp 0 1`"
-fn compare_lists(engine: Engine) -> Ruling
-    requires { RegistersValid engine.state.count engine.registers.all }
-    ensures { CompareListsEnsures engine result }
+// The second list, from the line `=` on, and "then `cmp 0 1`".
+fn second(lists: &mut Lists, count: usize) -> Ruling
+    requires { IsLists lists.old × (ListAhead lists.old 1 count ×
+        ((1 ≤ lists.old.qubits) × (lists.old.qubits ≤ most_qubits))) }
+    ensures { JudgesSecond lists.old count result }
 {
-    let reply = respond::cmp(engine, 0, 1);
-    let answer = reply.answer;
-    ruling_of(answer)
-}
-
-// The second list, from the line `=` on.
-fn second(
-    text: &[u8],
-    store: &mut [u8],
-    cache: &mut [u64],
-    at: ListState,
-    n: QubitCount,
-    count: usize,
-) -> Ruling
-    requires { EngineInvariant cache.old store.old at.engine ×
-        (ListRequires (gate_list text.now n 1 count) at × ((1 ≤ n) × (n ≤ most_qubits))) }
-    ensures { SecondEnsures (gate_list text.now n 1 count) store.old at result }
-{
-    let last = list::run(text, store, cache, at, n, 1, count);
-    if last.refused {
-        return Ruling::No(Fault::Full, last.line);
+    if lists.run(1, count).is_err() {
+        return Ruling::No(Fault::Full, lists.line);
     }
-    compare_lists(last.engine)
+    ruling_of(lists.engine.cmp(0, 1))
 }
 
 // Both lists of a good text, whose `=` is at the line `parting`, of `count` lines.
@@ -74,19 +56,23 @@ fn run(
     requires { GoodText text.now n parting count × ((1 ≤ n) × (n ≤ most_qubits)) }
     ensures { JudgeEnsures text.now store.old result }
 {
-    let engine = engine::start(store, cache);
-    let refused = false;
-    let at = ListState {
-        refused,
+    let mut diagram = Diagram::over(store, cache);
+    let mut engine = Engine {
+        diagram: &mut diagram,
+        registers: Registers::empty(),
+    };
+    engine.start();
+    let mut lists = Lists {
+        text,
+        qubits: n,
         line: 0,
         place: 0,
         engine,
     };
-    let first = list::run(text, store, cache, at, n, 0, parting - 2);
-    if first.refused {
-        return Ruling::No(Fault::Full, first.line);
+    if lists.run(0, parting - 2).is_err() {
+        return Ruling::No(Fault::Full, lists.line);
     }
-    second(text, store, cache, first, n, count - parting)
+    second(&mut lists, count - parting)
 }
 
 // "All lines are read before any gate runs; the first faulty line decides."

@@ -3,11 +3,11 @@ ghost use Rattle.std.specs.Prelude.{◌≡◌, false, ◌-◌, ◌≤◌, ◌<�
 ghost use Rattle.diagram.specs.Tensor.{bits, depends, masks};
 ghost use Rattle.diagram.specs.Tally.{sum as sums, cont as conts, low as low_of};
 ghost use Rattle.diagram.specs.Lows.{lows as lows_of, clash};
-ghost use Rattle.diagram.specs.Diagram.{IsEdge, tensor, MayLower, MayLowerSet, KeepsLoans};
+ghost use Rattle.diagram.specs.Diagram.{IsEdge, tensor, MayLower, MayLowerSet};
 ghost use Rattle.text.specs.Limits.{last_index, most_qubits, register_count};
 ghost use Rattle.text.specs.Names.{Placed};
 ghost use Rattle.text.specs.Call.{InRange};
-ghost use Rattle.text.specs.Engine.{IsEngine, Sets};
+ghost use Rattle.text.specs.Engine.{KeepsEngine, IsEngine, Sets};
 ghost use Rattle.text.specs.Operate.{SetsOr};
 ghost use Rattle.text.specs.Apply.{apply_step};
 ghost use Rattle.text.specs.Respond.{Responds};
@@ -22,10 +22,10 @@ use diagram::gate::{Gate, QubitCount};
 use diagram::node::{Edge, Index};
 use diagram::registers::RegisterNumber;
 
-impl<'a> Engine<'a> {
+impl<'b, 'a> Engine<'b, 'a> {
     pub(crate) fn put(&mut self, d: RegisterNumber, w: Weight) -> Answer
         requires { IsEngine self.old × InRange (call.Put d w) }
-        ensures loans { KeepsLoans self.old.diagram self.new.diagram }
+        ensures loans { KeepsEngine self.old self.new }
         ensures responds { Responds self.old self.new (call.Put d w) result }
     {
         let before = self.diagram.state;
@@ -35,7 +35,7 @@ impl<'a> Engine<'a> {
 
     pub(crate) fn gate(&mut self, d: RegisterNumber, g: Gate) -> Answer
         requires { IsEngine self.old × InRange (call.Gate d g) }
-        ensures loans { KeepsLoans self.old.diagram self.new.diagram }
+        ensures loans { KeepsEngine self.old self.new }
         ensures responds { Responds self.old self.new (call.Gate d g) result }
     {
         let before = self.diagram.state;
@@ -45,7 +45,7 @@ impl<'a> Engine<'a> {
 
     pub(crate) fn unit(&mut self, d: RegisterNumber, n: QubitCount) -> Answer
         requires { IsEngine self.old × InRange (call.Unit d n) }
-        ensures loans { KeepsLoans self.old.diagram self.new.diagram }
+        ensures loans { KeepsEngine self.old self.new }
         ensures responds { Responds self.old self.new (call.Unit d n) result }
     {
         let before = self.diagram.state;
@@ -55,10 +55,10 @@ impl<'a> Engine<'a> {
 
     pub(crate) fn add(&mut self, d: RegisterNumber, a: Edge, b: Edge) -> Answer
         requires { IsEngine self.old ×
-            ((d < register_count) × (IsEdge self.old.diagram a × IsEdge self.old.diagram b)) }
-        ensures loans { KeepsLoans self.old.diagram self.new.diagram }
+            ((d < register_count) × (IsEdge self.old.diagram.now a × IsEdge self.old.diagram.now b)) }
+        ensures loans { KeepsEngine self.old self.new }
         ensures sets { Sets self.old self.new d
-            (sums (tensor self.old.diagram a) (tensor self.old.diagram b)) result }
+            (sums (tensor self.old.diagram.now a) (tensor self.old.diagram.now b)) result }
     {
         let before = self.diagram.state;
         let step = self.diagram.sum(a, b);
@@ -67,10 +67,10 @@ impl<'a> Engine<'a> {
 
     pub(crate) fn cont(&mut self, d: RegisterNumber, a: Edge, b: Edge, m: Mask) -> Answer
         requires { IsEngine self.old × ((d < register_count) ×
-            (IsEdge self.old.diagram a × (IsEdge self.old.diagram b × (m < masks)))) }
-        ensures loans { KeepsLoans self.old.diagram self.new.diagram }
+            (IsEdge self.old.diagram.now a × (IsEdge self.old.diagram.now b × (m < masks)))) }
+        ensures loans { KeepsEngine self.old self.new }
         ensures sets { Sets self.old self.new d
-            (conts (tensor self.old.diagram a) (tensor self.old.diagram b) (bits m)) result }
+            (conts (tensor self.old.diagram.now a) (tensor self.old.diagram.now b) (bits m)) result }
     {
         let before = self.diagram.state;
         let mask = m as u64;
@@ -81,9 +81,9 @@ impl<'a> Engine<'a> {
     // Index k is renamed k - 1, in a tensor that does not depend on k - 1.
     fn lower(&mut self, d: RegisterNumber, a: Edge, k: Index) -> Answer
         requires { IsEngine self.old ×
-            ((d < register_count) × (IsEdge self.old.diagram a × MayLower self.old.diagram a k)) }
-        ensures loans { KeepsLoans self.old.diagram self.new.diagram }
-        ensures sets { Sets self.old self.new d (low_of k (tensor self.old.diagram a)) result }
+            ((d < register_count) × (IsEdge self.old.diagram.now a × MayLower self.old.diagram.now a k)) }
+        ensures loans { KeepsEngine self.old self.new }
+        ensures sets { Sets self.old self.new d (low_of k (tensor self.old.diagram.now a)) result }
     {
         let before = self.diagram.state;
         let step = self.diagram.lower(a, k);
@@ -93,10 +93,10 @@ impl<'a> Engine<'a> {
     // The same, or 7 where it depends on k - 1.
     pub(crate) fn low(&mut self, d: RegisterNumber, a: Edge, k: Index) -> Answer
         requires { IsEngine self.old ×
-            ((d < register_count) × (IsEdge self.old.diagram a × ((1 ≤ k) × (k ≤ last_index)))) }
-        ensures loans { KeepsLoans self.old.diagram self.new.diagram }
-        ensures sets { SetsOr self.old self.new d (depends (k - 1) (tensor self.old.diagram a))
-            (low_of k (tensor self.old.diagram a)) result }
+            ((d < register_count) × (IsEdge self.old.diagram.now a × ((1 ≤ k) × (k ≤ last_index)))) }
+        ensures loans { KeepsEngine self.old self.new }
+        ensures sets { SetsOr self.old self.new d (depends (k - 1) (tensor self.old.diagram.now a))
+            (low_of k (tensor self.old.diagram.now a)) result }
     {
         if self.diagram.depends(a, k - 1) {
             return Answer::No(Refusal::Depends);
@@ -107,9 +107,9 @@ impl<'a> Engine<'a> {
     // The indices of m are renamed to the ones before them, where there is no clash.
     fn lower_set(&mut self, d: RegisterNumber, a: Edge, m: Mask) -> Answer
         requires { IsEngine self.old ×
-            ((d < register_count) × (IsEdge self.old.diagram a × MayLowerSet self.old.diagram a m)) }
-        ensures loans { KeepsLoans self.old.diagram self.new.diagram }
-        ensures sets { Sets self.old self.new d (lows_of (bits m) (tensor self.old.diagram a)) result }
+            ((d < register_count) × (IsEdge self.old.diagram.now a × MayLowerSet self.old.diagram.now a m)) }
+        ensures loans { KeepsEngine self.old self.new }
+        ensures sets { Sets self.old self.new d (lows_of (bits m) (tensor self.old.diagram.now a)) result }
     {
         let before = self.diagram.state;
         let mask = m as u64;
@@ -120,10 +120,10 @@ impl<'a> Engine<'a> {
     // The same, or 7 where there is a clash.
     pub(crate) fn lows(&mut self, d: RegisterNumber, a: Edge, m: Mask) -> Answer
         requires { IsEngine self.old ×
-            ((d < register_count) × (IsEdge self.old.diagram a × ((bits m 0 ≡ false) × (m < masks)))) }
-        ensures loans { KeepsLoans self.old.diagram self.new.diagram }
-        ensures sets { SetsOr self.old self.new d (clash (bits m) (tensor self.old.diagram a))
-            (lows_of (bits m) (tensor self.old.diagram a)) result }
+            ((d < register_count) × (IsEdge self.old.diagram.now a × ((bits m 0 ≡ false) × (m < masks)))) }
+        ensures loans { KeepsEngine self.old self.new }
+        ensures sets { SetsOr self.old self.new d (clash (bits m) (tensor self.old.diagram.now a))
+            (lows_of (bits m) (tensor self.old.diagram.now a)) result }
     {
         if self.diagram.clash(a, m as u64) {
             return Answer::No(Refusal::Depends);
@@ -134,12 +134,12 @@ impl<'a> Engine<'a> {
     // The gate g applied to a.
     pub(crate) fn apply(&mut self, d: RegisterNumber, a: Edge, g: Gate) -> Answer
         requires { IsEngine self.old ×
-            ((d < register_count) × (IsEdge self.old.diagram a × Placed most_qubits g)) }
-        ensures loans { KeepsLoans self.old.diagram self.new.diagram }
-        ensures sets { Sets self.old self.new d (apply_step g (tensor self.old.diagram a)) result }
+            ((d < register_count) × (IsEdge self.old.diagram.now a × Placed most_qubits g)) }
+        ensures loans { KeepsEngine self.old self.new }
+        ensures sets { Sets self.old self.new d (apply_step g (tensor self.old.diagram.now a)) result }
     {
         let before = self.diagram.state;
-        let step = apply::apply(&mut self.diagram, a, g);
+        let step = apply::apply(self.diagram, a, g);
         self.settle(before, d, step)
     }
 }

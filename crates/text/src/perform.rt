@@ -4,107 +4,57 @@ ghost use Rattle.text.specs.Limits.{most_qubits};
 ghost use Rattle.text.specs.Names.{Placed};
 ghost use Rattle.text.specs.Call.{InRange};
 ghost use Rattle.text.specs.VerdictSession.{gate_calls};
-ghost use Rattle.text.specs.Answer.{is_no};
-ghost use Rattle.text.specs.Perform.{PerformsCalls, DropCollectEnsures, FinishEnsures};
-ghost use Rattle.text.specs.Engine.{EngineInvariant};
+ghost use Rattle.text.specs.Engine.{KeepsEngine, IsEngine};
+ghost use Rattle.text.specs.Perform.{Accepts, Performs, DropsAndCollects};
 
 use crate::answer::Answer;
-use crate::call::Call;
-use crate::engine::{Engine, Reply};
-use crate::{operate, respond};
-use diagram::collect;
+use crate::call::{Call, Refusal};
+use crate::engine::Engine;
 use diagram::gate::Gate;
 use diagram::registers::RegisterNumber;
 
-// Whether a call was refused, and what the calls before it leave.
-#[derive(Clone, Copy)]
-pub struct PerformState {
-    pub refused: bool,
-    pub engine: Engine,
-}
-
-fn is_no(answer: Answer) -> bool
-    ensures { result ≡ is_no answer }
+// The refusal, if the answer is one.
+fn accepted(answer: Answer) -> Result<(), Refusal>
+    ensures { Accepts answer result }
 {
     match answer {
-        Answer::Ok(_) => false,
-        Answer::No(_) => true,
-        Answer::Value(_) => false,
-        Answer::Same => false,
-        Answer::Factor(_) => false,
-        Answer::Differ => false,
-        Answer::Mask(_) => false,
+        Answer::No(why) => Err(why),
+        _ => Ok(()),
     }
 }
 
-// One call more, unless one was refused.
-pub(crate) fn call(
-    store: &mut [u8],
-    cache: &mut [u64],
-    run: PerformState,
-    call: Call,
-) -> PerformState
-    requires { EngineInvariant cache.old store.old run.engine × InRange call }
-    ensures { PerformsCalls store.old cache.new store.new run (call ∷ []) result }
-{
-    if run.refused {
-        return run;
+impl<'b, 'a> Engine<'b, 'a> {
+    // One call more.
+    pub(crate) fn perform(&mut self, call: Call) -> Result<(), Refusal>
+        requires { IsEngine self.old × InRange call }
+        ensures loans { KeepsEngine self.old self.new }
+        ensures performs { Performs self.old self.new (call ∷ []) result }
+    {
+        accepted(self.respond(call))
     }
-    let reply = respond::respond(store, cache, run.engine, call);
-    let answer = reply.answer;
-    let engine = reply.engine;
-    let refused = is_no(answer);
-    PerformState { refused, engine }
-}
 
-// "`drop 2`, `collect`"
-fn drop_collect(store: &mut [u8], cache: &mut [u64], engine: Engine) -> Engine
-    requires { EngineInvariant cache.old store.old engine }
-    ensures { DropCollectEnsures store.old cache.new store.new engine result }
-{
-    let mut registers = engine.registers;
-    registers.clear(2);
-    let swept = collect::collect(store, cache, engine.state, registers);
-    let state = swept.state;
-    let registers = swept.registers;
-    Engine { state, registers }
-}
-
-// What follows the gate's step, unless it was refused.
-fn finish(store: &mut [u8], cache: &mut [u64], reply: Reply) -> PerformState
-    requires { EngineInvariant cache.old store.old reply.engine }
-    ensures { FinishEnsures store.old cache.new store.new reply result }
-{
-    let answer = reply.answer;
-    let engine = reply.engine;
-    let refused = is_no(answer);
-    if refused {
-        return PerformState { refused, engine };
+    // "`drop 2`, `collect`"
+    fn drop_collect(&mut self)
+        requires { IsEngine self.old }
+        ensures loans { KeepsEngine self.old self.new }
+        ensures drops { DropsAndCollects self.old self.new }
+    {
+        self.registers.clear(2);
+        self.registers = self.diagram.collect(self.registers);
     }
-    let engine = drop_collect(store, cache, engine);
-    PerformState { refused, engine }
-}
 
-// A gate of the list in register r. With nothing there, its `cont` would be refused.
-pub(crate) fn gate(
-    store: &mut [u8],
-    cache: &mut [u64],
-    run: PerformState,
-    r: RegisterNumber,
-    g: Gate,
-) -> PerformState
-    requires { EngineInvariant cache.old store.old run.engine × ((r < 2) × Placed most_qubits g) }
-    ensures { PerformsCalls store.old cache.new store.new run
-        (gate_calls r g) result }
-{
-    if run.refused {
-        return run;
+    // A gate of the list in register r. With nothing there, its `cont` would be refused.
+    pub(crate) fn perform_gate(&mut self, r: RegisterNumber, g: Gate) -> Result<(), Refusal>
+        requires { IsEngine self.old × ((r < 2) × Placed most_qubits g) }
+        ensures loans { KeepsEngine self.old self.new }
+        ensures performs { Performs self.old self.new (gate_calls r g) result }
+    {
+        let Some(x) = self.registers.get(r) else {
+            return Err(Refusal::Empty);
+        };
+        let answer = self.apply(r, x, g);
+        accepted(answer)?;
+        self.drop_collect();
+        Ok(())
     }
-    let engine = run.engine;
-    let Some(x) = engine.registers.get(r) else {
-        let refused = true;
-        return PerformState { refused, engine };
-    };
-    let reply = operate::apply(store, cache, engine, r, x, g);
-    finish(store, cache, reply)
 }

@@ -1,13 +1,12 @@
 // The run of a session, line after line (document 01, "Session calls").
 ghost use Rattle.std.specs.Prelude.{◌≡◌, ◌+◌, ◌≤◌, ◌<◌, length};
 ghost use Rattle.text.specs.Limits.{answer_room};
-ghost use Rattle.text.specs.Progress.{AnswerLineEnsures, ResumeLineRequires, ResumeLineEnsures, ResumeEnsures};
-ghost use Rattle.text.specs.Progress.{stopped_progress, result_of};
-ghost use Rattle.text.specs.Engine.{EngineInvariant};
+ghost use Rattle.text.specs.Engine.{KeepsEngine, IsEngine};
+ghost use Rattle.text.specs.Progress.{reached, AnswersLine, ResumeLineRequires, ResumesLine, Resumes, result_of};
 
 use crate::engine::Engine;
 use crate::limits::ANSWER_ROOM;
-use crate::{answer, line, respond, split};
+use crate::{answer, line, split};
 use diagram::node::NodeCount;
 use diagram::registers::Registers;
 
@@ -21,125 +20,78 @@ pub struct SessionResult {
     pub registers: Registers,
 }
 
-// The state of a run; the text is read up to `place`.
+// How far a run has come; the text is read up to `place`.
 #[derive(Clone, Copy)]
 pub struct Progress {
     pub code: usize,
     pub lines: usize,
     pub bytes: usize,
     pub place: usize,
-    pub engine: Engine,
 }
 
-// One line, which ends before `place`. Its answer goes behind those before it.
-fn answer_line(
-    line: &[u8],
-    store: &mut [u8],
-    cache: &mut [u64],
-    out: &mut [u8],
-    p: Progress,
-    place: usize,
-) -> Progress
-    requires { EngineInvariant cache.old store.old p.engine ×
-        ((p.bytes + answer_room ≤ length out.old) × (p.lines < 18446744073709551615)) }
-    ensures { AnswerLineEnsures line.now place store.old cache.new
-        store.new out.old out.new p result }
-{
-    let call = line::read(line);
-    let reply = respond::respond(store, cache, p.engine, call);
-    let engine = reply.engine;
-    let answer = reply.answer;
-    let bytes = answer::write(out, p.bytes, answer);
-    let lines = p.lines + 1;
-    Progress {
-        code: 0,
-        lines,
-        bytes,
-        place,
-        engine,
-    }
-}
-
-// The next line of the text.
-fn resume_line(
-    text: &[u8],
-    store: &mut [u8],
-    cache: &mut [u64],
-    out: &mut [u8],
-    p: Progress,
-) -> Progress
-    requires { EngineInvariant cache.old store.old p.engine × ResumeLineRequires text.now out.old p }
-    ensures { ResumeLineEnsures text.now store.old cache.new store.new
-        out.old out.new p result }
-{
-    let place = p.place;
-    let e = split::end(text, place, b'\n');
-    answer_line(&text[place..e], store, cache, out, p, e + 1)
-}
-
-// "the run stops with 9 and the line is not begun"
-fn stop(p: Progress) -> Progress
-    ensures { result ≡ stopped_progress p }
-{
-    let lines = p.lines;
-    let bytes = p.bytes;
-    let place = p.place;
-    let engine = p.engine;
-    Progress {
-        code: 9,
-        lines,
-        bytes,
-        place,
-        engine,
-    }
-}
-
-// Answers the lines of a text, `limit` of them at most, from what an earlier part of the session has left.
-pub fn resume(
-    text: &[u8],
-    store: &mut [u8],
-    cache: &mut [u64],
-    out: &mut [u8],
-    limit: usize,
-    engine: Engine,
-) -> Progress
-    requires { EngineInvariant cache.old store.old engine }
-    ensures { ResumeEnsures text.now limit engine store.old cache.new
-        store.new out.old out.new result }
-{
-    let mut p = Progress {
-        code: 0,
-        lines: 0,
-        bytes: 0,
-        place: 0,
-        engine,
-    };
-    while p.place < text.len() {
-        if p.lines == limit {
-            return p;
+impl<'b, 'a> Engine<'b, 'a> {
+    // One line, which ends before `place`. Its answer goes behind those before it.
+    fn answer_line(&mut self, line: &[u8], out: &mut [u8], p: Progress, place: usize) -> Progress
+        requires { IsEngine self.old ×
+            ((p.bytes + answer_room ≤ length out.old) × (p.lines < 18446744073709551615)) }
+        ensures loans { KeepsEngine self.old self.new }
+        ensures answers { AnswersLine self.old self.new line.now place out.old out.new p result }
+    {
+        let call = line::read(line);
+        let answer = self.respond(call);
+        Progress {
+            code: 0,
+            lines: p.lines + 1,
+            bytes: answer::write(out, p.bytes, answer),
+            place,
         }
-        let short = out.len() - p.bytes < ANSWER_ROOM;
-        if short {
-            return stop(p);
-        }
-        p = resume_line(text, store, cache, out, p);
     }
-    p
-}
 
-pub(crate) fn result(p: Progress) -> SessionResult
-    ensures { result ≡ result_of p }
-{
-    let code = p.code;
-    let lines = p.lines;
-    let bytes = p.bytes;
-    let count = p.engine.state.count;
-    let registers = p.engine.registers;
-    SessionResult {
-        code,
-        lines,
-        bytes,
-        count,
-        registers,
+    // The next line of the text.
+    fn resume_line(&mut self, text: &[u8], out: &mut [u8], p: Progress) -> Progress
+        requires { IsEngine self.old × ResumeLineRequires text.now out.old (reached p self.old) }
+        ensures loans { KeepsEngine self.old self.new }
+        ensures answers { ResumesLine self.old self.new text.now out.old out.new p result }
+    {
+        let e = split::end(text, p.place, b'\n');
+        self.answer_line(&text[p.place..e], out, p, e + 1)
+    }
+
+    // Answers the lines of a text, `limit` of them at most, from what an earlier part of the session has left.
+    pub fn resume(&mut self, text: &[u8], out: &mut [u8], limit: usize) -> Progress
+        requires { IsEngine self.old }
+        ensures loans { KeepsEngine self.old self.new }
+        ensures resumes { Resumes self.old self.new text.now limit out.old out.new result }
+    {
+        let mut p = Progress {
+            code: 0,
+            lines: 0,
+            bytes: 0,
+            place: 0,
+        };
+        while p.place < text.len() {
+            if p.lines == limit {
+                return p;
+            }
+            let short = out.len() - p.bytes < ANSWER_ROOM;
+            if short {
+                // "the run stops with 9 and the line is not begun"
+                return Progress { code: 9, ..p };
+            }
+            p = self.resume_line(text, out, p);
+        }
+        p
+    }
+
+    pub(crate) fn result(&self, p: Progress) -> SessionResult
+        ensures { result ≡ result_of (reached p self.now) }
+    {
+        SessionResult {
+            code: p.code,
+            lines: p.lines,
+            bytes: p.bytes,
+            count: self.diagram.state.count,
+            registers: self.registers,
+        }
     }
 }

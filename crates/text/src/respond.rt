@@ -1,10 +1,9 @@
 // What a call does and answers (document 01, "Session calls"; document 02, `on` and `lows`). Its line was read, so 1,
 // 2, 4, 5 and 6 are past: "3 from the left; 7; 8".
 ghost use Rattle.std.specs.Prelude.{◌≡◌};
-ghost use Rattle.diagram.specs.Diagram.{KeepsLoans};
 ghost use Rattle.text.specs.Session.{comparison};
 ghost use Rattle.text.specs.Call.{InRange};
-ghost use Rattle.text.specs.Engine.{IsEngine};
+ghost use Rattle.text.specs.Engine.{KeepsEngine, IsEngine};
 ghost use Rattle.text.specs.Respond.{Responds};
 ghost use Rattle.text.specs.declared.call.Call.TheVariants as call;
 
@@ -14,8 +13,8 @@ use crate::engine::Engine;
 use crate::limits::{Assignment, Mask};
 use diagram::compare::Comparison;
 use diagram::node::Index;
-use diagram::registers::{RegisterContent, RegisterNumber};
-use diagram::{compare, registers};
+use diagram::compare;
+use diagram::registers::RegisterNumber;
 
 fn comparison(c: Comparison) -> Answer
     ensures { result ≡ comparison c }
@@ -27,16 +26,16 @@ fn comparison(c: Comparison) -> Answer
     }
 }
 
-impl<'a> Engine<'a> {
+impl<'b, 'a> Engine<'b, 'a> {
     fn respond_add(&mut self, d: RegisterNumber, a: RegisterNumber, b: RegisterNumber) -> Answer
         requires { IsEngine self.old × InRange (call.Add d a b) }
-        ensures loans { KeepsLoans self.old.diagram self.new.diagram }
+        ensures loans { KeepsEngine self.old self.new }
         ensures responds { Responds self.old self.new (call.Add d a b) result }
     {
-        let RegisterContent::Edge(x) = registers::get(self.registers, a) else {
+        let Some(x) = self.registers.get(a) else {
             return Answer::No(Refusal::Empty);
         };
-        let RegisterContent::Edge(y) = registers::get(self.registers, b) else {
+        let Some(y) = self.registers.get(b) else {
             return Answer::No(Refusal::Empty);
         };
         self.add(d, x, y)
@@ -50,13 +49,13 @@ impl<'a> Engine<'a> {
         m: Mask,
     ) -> Answer
         requires { IsEngine self.old × InRange (call.Cont d a b m) }
-        ensures loans { KeepsLoans self.old.diagram self.new.diagram }
+        ensures loans { KeepsEngine self.old self.new }
         ensures responds { Responds self.old self.new (call.Cont d a b m) result }
     {
-        let RegisterContent::Edge(x) = registers::get(self.registers, a) else {
+        let Some(x) = self.registers.get(a) else {
             return Answer::No(Refusal::Empty);
         };
-        let RegisterContent::Edge(y) = registers::get(self.registers, b) else {
+        let Some(y) = self.registers.get(b) else {
             return Answer::No(Refusal::Empty);
         };
         self.cont(d, x, y, m)
@@ -64,10 +63,10 @@ impl<'a> Engine<'a> {
 
     fn respond_low(&mut self, d: RegisterNumber, a: RegisterNumber, k: Index) -> Answer
         requires { IsEngine self.old × InRange (call.Low d a k) }
-        ensures loans { KeepsLoans self.old.diagram self.new.diagram }
+        ensures loans { KeepsEngine self.old self.new }
         ensures responds { Responds self.old self.new (call.Low d a k) result }
     {
-        let RegisterContent::Edge(x) = registers::get(self.registers, a) else {
+        let Some(x) = self.registers.get(a) else {
             return Answer::No(Refusal::Empty);
         };
         self.low(d, x, k)
@@ -75,10 +74,10 @@ impl<'a> Engine<'a> {
 
     fn respond_lows(&mut self, d: RegisterNumber, a: RegisterNumber, m: Mask) -> Answer
         requires { IsEngine self.old × InRange (call.Lows d a m) }
-        ensures loans { KeepsLoans self.old.diagram self.new.diagram }
+        ensures loans { KeepsEngine self.old self.new }
         ensures responds { Responds self.old self.new (call.Lows d a m) result }
     {
-        let RegisterContent::Edge(x) = registers::get(self.registers, a) else {
+        let Some(x) = self.registers.get(a) else {
             return Answer::No(Refusal::Empty);
         };
         self.lows(d, x, m)
@@ -86,19 +85,19 @@ impl<'a> Engine<'a> {
 
     fn drop_register(&mut self, a: RegisterNumber) -> Answer
         requires { IsEngine self.old × InRange (call.Drop a) }
-        ensures loans { KeepsLoans self.old.diagram self.new.diagram }
+        ensures loans { KeepsEngine self.old self.new }
         ensures responds { Responds self.old self.new (call.Drop a) result }
     {
-        let RegisterContent::Edge(_) = registers::get(self.registers, a) else {
+        let Some(_) = self.registers.get(a) else {
             return Answer::No(Refusal::Empty);
         };
-        self.registers = registers::clear(self.registers, a);
+        self.registers.clear(a);
         Answer::Ok(self.diagram.state.count)
     }
 
     fn collect(&mut self) -> Answer
         requires { IsEngine self.old }
-        ensures loans { KeepsLoans self.old.diagram self.new.diagram }
+        ensures loans { KeepsEngine self.old self.new }
         ensures responds { Responds self.old self.new call.Collect result }
     {
         self.registers = self.diagram.collect(self.registers);
@@ -109,7 +108,7 @@ impl<'a> Engine<'a> {
         requires { IsEngine self.now × InRange (call.At a v) }
         ensures { Responds self.now self.now (call.At a v) result }
     {
-        let RegisterContent::Edge(x) = registers::get(self.registers, a) else {
+        let Some(x) = self.registers.get(a) else {
             return Answer::No(Refusal::Empty);
         };
         let w = self.diagram.value(x, v as u64);
@@ -120,10 +119,10 @@ impl<'a> Engine<'a> {
         requires { IsEngine self.now × InRange (call.Cmp a b) }
         ensures { Responds self.now self.now (call.Cmp a b) result }
     {
-        let RegisterContent::Edge(x) = registers::get(self.registers, a) else {
+        let Some(x) = self.registers.get(a) else {
             return Answer::No(Refusal::Empty);
         };
-        let RegisterContent::Edge(y) = registers::get(self.registers, b) else {
+        let Some(y) = self.registers.get(b) else {
             return Answer::No(Refusal::Empty);
         };
         comparison(compare::compare(x, y))
@@ -133,7 +132,7 @@ impl<'a> Engine<'a> {
         requires { IsEngine self.now × InRange (call.On a) }
         ensures { Responds self.now self.now (call.On a) result }
     {
-        let RegisterContent::Edge(x) = registers::get(self.registers, a) else {
+        let Some(x) = self.registers.get(a) else {
             return Answer::No(Refusal::Empty);
         };
         let m = self.diagram.support(x);
@@ -142,7 +141,7 @@ impl<'a> Engine<'a> {
 
     pub(crate) fn respond(&mut self, call: Call) -> Answer
         requires { IsEngine self.old × InRange call }
-        ensures loans { KeepsLoans self.old.diagram self.new.diagram }
+        ensures loans { KeepsEngine self.old self.new }
         ensures responds { Responds self.old self.new call result }
     {
         match call {

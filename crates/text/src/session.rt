@@ -5,8 +5,10 @@ ghost use Rattle.text.specs.Text.{lines};
 ghost use Rattle.text.specs.Session.{at_most, empty_run};
 ghost use Rattle.text.specs.Agrees.{AgreesThroughout};
 
+use crate::engine::Engine;
 use crate::progress::SessionResult;
-use crate::{engine, progress};
+use diagram::diagram::Diagram;
+use diagram::registers::Registers;
 
 // The session of a text up to its first `limit` lines.
 pub fn work(
@@ -20,9 +22,14 @@ pub fn work(
         (take limit (lines text.now)) empty_run
         store.new out.old out.new result }
 {
-    let engine = engine::start(store, cache);
-    let p = progress::resume(text, store, cache, out, limit, engine);
-    progress::result(p)
+    let mut diagram = Diagram::over(store, cache);
+    let mut engine = Engine {
+        diagram: &mut diagram,
+        registers: Registers::empty(),
+    };
+    engine.start();
+    let p = engine.resume(text, out, limit);
+    engine.result(p)
 }
 
 // The session of a text: a text has no more lines than bytes.

@@ -1,3 +1,4 @@
+use Rattle.std.proofs.lemmas.Result.{err_from_is_err_and}
 use borrow.Author.Rules.{rules}
 use Rattle.text.specs.QubitsLaws.{below_one, below_first, below_second}
 use Rattle.text.specs.ApplyLaws.{free_one, free_first, free_second, ready_second, renamed_one, renamed_two}
@@ -10,14 +11,20 @@ rename-requires c = (search rules, (search (rules, below_one), search (rules, fr
 pub rename-requires-in-Two : goal.rename-requires-in-Two
 rename-requires-in-Two c = (search rules, (search (rules, below_first), search (rules, free_first)))
 
-pub returns-in_default : goal.returns-in_default
-returns-in_default c = search (rules, renamed_full)
+pub returns-in_err-e-in-Two-clause-does : goal.returns-in_err-e-in-Two-clause-does
+returns-in_err-e-in-Two-clause-does c =
+    let p = err_from_is_err_and c.from_residual.result c.from_residual.ensures.1 in
+    rw p.1 (renamed_full c.in-Two.is c.requires.1.1 c.in_err-e-in-Two.ensures.does)
 
 pub rename-requires-in-Two-2 : goal.rename-requires-in-Two-2
-rename-requires-in-Two-2 c = (search (rules, ready_second), (search (rules, below_second), search (rules, free_second)))
+rename-requires-in-Two-2 c =
+    let e = c.in_ok-e-in-Two.ensures.does in (
+      ready_second c.in-Two.is c.requires.1.1 e,
+      (search (rules, below_second), free_second c.in-Two.is c.requires.1.1 e),
+    )
 
-pub returns-in-One : goal.returns-in-One
-returns-in-One c = search (rules, renamed_one)
+pub returns-in-One-clause-does : goal.returns-in-One-clause-does
+returns-in-One-clause-does c = search (rules, renamed_one)
 
-pub returns-in-Edge : goal.returns-in-Edge
-returns-in-Edge c = search (rules, renamed_two)
+pub returns-in_ok-e-in-Two-clause-does : goal.returns-in_ok-e-in-Two-clause-does
+returns-in_ok-e-in-Two-clause-does c = let e = c.in_ok-e-in-Two.ensures.does in search (rules, renamed_two, e)
