@@ -1,10 +1,11 @@
 -- What a call does and answers: as the tally's.
-use Rattle.std.specs.Prelude.{List, ◌≡◌, ℕ}
+use Rattle.std.specs.Prelude.{List, ◌≡◌, ℕ, Result}
 use Rattle.diagram.specs.Node.{capacity}
 use Rattle.text.specs.Answer.{SmallAnswer}
-use Rattle.text.specs.Session.{at_most, answer}
+use Rattle.text.specs.Session.{at_most, answer, answer_read}
 use Rattle.text.specs.Engine.{Forgotten, FullForgets, tally_of, RefusedUnchanged, EngineInvariant}
 use Rattle.text.specs.declared.call.Call.{Call}
+use Rattle.text.specs.declared.call.Refusal.{Refusal}
 use Rattle.text.specs.declared.engine.Reply.{Reply}
 use Rattle.text.specs.declared.engine.Engine.{Engine}
 use Rattle.text.specs.declared.call.Call.TheVariants as call
@@ -23,7 +24,6 @@ Forgets (call.At a v) = FullForgets
 Forgets (call.Cmp a b) = FullForgets
 Forgets (call.On a) = FullForgets
 Forgets (call.Lows d a m) = FullForgets
-Forgets (call.Refused why) = λ c' r. Unit {0}
 
 -- The call answers as the tally's does, and leaves what the tally's leaves.
 pub record RespondEnsures (c' s s' : List ℕ) (e : Engine) (x : Call) (r : Reply) : Type 0 where
@@ -40,3 +40,10 @@ pub record ReadEnsures (s : List ℕ) (e : Engine) (x : Call) (r : Reply) : Type
 
 pub record PureEnsures (e : Engine) (x : Call) (r : Reply) : Type 0 where
   pub on : (s : List ℕ) → ReadEnsures s e x r
+
+-- The line that was read is answered as the tally's is.
+pub record ReplyEnsures (c' s s' : List ℕ) (e : Engine) (x : Result Call Refusal) (r : Reply) : Type 0 where
+  pub invariant : EngineInvariant c' s' r.engine
+  pub small : SmallAnswer r.answer
+  pub is : answer_read (at_most (capacity s)) x (tally_of s e) ≡ (r.answer, tally_of s' r.engine)
+  pub refused : RefusedUnchanged s s' e r

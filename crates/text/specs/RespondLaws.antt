@@ -1,5 +1,6 @@
 -- Laws of Respond: the operands, and the refusals in order.
-use Rattle.std.specs.Prelude.{◌≡◌, ◌≢◌, Bool, false, cond, ◌-◌, ℕ, ◌<◌, set}
+use Rattle.std.specs.Prelude.{◌≡◌, ◌≢◌, Bool, false, cond, ◌-◌, ℕ, ◌<◌, set, Result}
+use Rattle.std.specs.Prelude.{Ok as Read, Err as Refused}
 use Rattle.std.proofs.Common.{subst, ◌∙◌, arith}
 use Rattle.std.proofs.Math.Path.{sym, ap, refl}
 use mathlib.Core.List.{List}
@@ -21,13 +22,13 @@ use Rattle.diagram.specs.CompareLaws.{compared_means}
 use Rattle.diagram.specs.Collect.{CollectEnsures}
 use Rattle.diagram.specs.Support.{support_mask}
 use Rattle.text.specs.Limits.{register_count}
-use Rattle.text.specs.Call.{InRange, refusal_number}
+use Rattle.text.specs.Call.{InRange, Ranged, refusal_number}
 use Rattle.text.specs.Answer.{is_no, SmallAnswer}
 use Rattle.text.specs.Session.{TallyReply, refuse, with_tensor, with_register, at_most, answer, settle, comparison}
 use Rattle.text.specs.Session.{node_count, accept}
 use Rattle.text.specs.Engine.{EngineInvariant, tally_of, RefuseEnsures, FullForgets, SetsRegister, SettleEnsures}
 use Rattle.text.specs.Operate.{SetsUnless}
-use Rattle.text.specs.Respond.{RespondEnsures, ReadEnsures, PureEnsures, Forgets}
+use Rattle.text.specs.Respond.{RespondEnsures, ReadEnsures, PureEnsures, ReplyEnsures, Forgets}
 use Rattle.text.specs.EngineLaws.{sets_register_constant, sets_register_step, never_full}
 use Rattle.text.specs.declared.call.Call.{Call}
 use Rattle.text.specs.declared.engine.Engine.{Engine}
@@ -67,6 +68,14 @@ pub pure_ensures_as : {c s : List ℕ} {e : Engine} {x y : Call} {r : Reply} →
     → PureEnsures e x r
     → RespondEnsures c s s e y r
 pure_ensures_as {s = s} p q h = read_ensures_as p q (h.on s)
+
+pub reply_call : {c' s s' : List ℕ} {e : Engine} {x : Result Call Refusal} {y : Call} {r : Reply} → x ≡ Read y
+    → RespondEnsures c' s s' e y r
+    → ReplyEnsures c' s s' e x r
+reply_call q h = record { invariant = h.invariant; small = h.small; is = rw q h.is; refused = h.refused }
+
+pub read_ranged : {x : Result Call Refusal} {y : Call} → Ranged x → x ≡ Read y → InRange y
+read_ranged h q = rw q at h
 
 -- an operand
 
@@ -113,10 +122,16 @@ module _ {c s : List ℕ} {e : Engine} {r : Reply} (p : EngineInvariant c s e) w
       → answer (at_most (capacity s)) x (tally_of s e) ≡ refuse Empty (tally_of s e) → RespondEnsures c s s e x r
   refused_empty forgets f q = respond_refused (forgets (refused_forgets Empty (λ z. omega arith) f)) f q
 
-  pub refused_line : {x : Call} {why : Refusal} → x ≡ call.Refused why → RefuseEnsures e why r
-      → RespondEnsures c s s e x r
-  unfolding answer
-  refused_line q f = respond_refused (rw q tt) f (rw q)
+  -- the reader refused
+  pub reply_refused : {x : Result Call Refusal} {why : Refusal} → x ≡ Refused why → RefuseEnsures e why r
+      → ReplyEnsures c s s e x r
+  unfolding refuse
+  reply_refused {x} {why} q f = record {
+    invariant = rw f.engine p;
+    small = rw f.answer tt;
+    is = rw (q, f.answer, f.engine) refl;
+    refused = λ no. rw f.engine record { nodes = refl; registers = refl };
+  }
 
   module _ {a : ℕ} {h : RegisterContent} (g : GetEnsures e.registers.all a h) (q : h ≡ content.Empty)
       (f : RefuseEnsures e Empty r) where

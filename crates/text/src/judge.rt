@@ -10,7 +10,7 @@ ghost use Rattle.text.specs.Judge.{CompareListsEnsures, SecondEnsures, JudgeEnsu
 ghost use Rattle.text.specs.Engine.{EngineInvariant};
 
 use crate::answer::Answer;
-use crate::check::{CheckResult, Fault};
+use crate::check::Fault;
 use crate::engine::Engine;
 use crate::limits::{LineNumber, VERDICT_ROOM};
 use crate::list::ListState;
@@ -94,8 +94,8 @@ fn judge(text: &[u8], store: &mut [u8], cache: &mut [u64]) -> Ruling
     ensures { JudgeEnsures text.now store.old result }
 {
     match check::check(text) {
-        CheckResult::Faulty(f, line) => Ruling::No(f, line),
-        CheckResult::Good(n, parting, count) => run(text, store, cache, n, parting, count),
+        Err(f) => Ruling::No(f.fault, f.line),
+        Ok(good) => run(text, store, cache, good.n, good.parting, good.count),
     }
 }
 

@@ -45,8 +45,7 @@ fn answer_line(
     ensures { AnswerLineEnsures line.now place store.old cache.new
         store.new out.old out.new p result }
 {
-    let call = line::read(line);
-    let reply = respond::respond(store, cache, p.engine, call);
+    let reply = respond::reply(store, cache, p.engine, line::read(line));
     let engine = reply.engine;
     let answer = reply.answer;
     let bytes = answer::write(out, p.bytes, answer);

@@ -4,8 +4,8 @@ ghost use Rattle.std.specs.Prelude.{◌≡◌};
 ghost use Rattle.diagram.specs.Store.{Sound};
 ghost use Rattle.diagram.specs.Registers.{RegistersValid};
 ghost use Rattle.text.specs.Session.{comparison};
-ghost use Rattle.text.specs.Call.{InRange};
-ghost use Rattle.text.specs.Respond.{RespondEnsures, ReadEnsures, PureEnsures};
+ghost use Rattle.text.specs.Call.{InRange, Ranged};
+ghost use Rattle.text.specs.Respond.{RespondEnsures, ReadEnsures, PureEnsures, ReplyEnsures};
 ghost use Rattle.text.specs.Engine.{EngineInvariant};
 ghost use Rattle.text.specs.declared.call.Call.TheVariants as call;
 
@@ -192,6 +192,21 @@ pub(crate) fn respond(store: &mut [u8], cache: &mut [u64], engine: Engine, call:
         Call::Cmp(a, b) => cmp(engine, a, b),
         Call::On(a) => on(store, engine, a),
         Call::Lows(d, a, m) => lows(store, cache, engine, d, a, m),
-        Call::Refused(r) => engine::refuse(engine, r),
+    }
+}
+
+// What a line does and answers: its call's, or what its reader refused.
+pub(crate) fn reply(
+    store: &mut [u8],
+    cache: &mut [u64],
+    engine: Engine,
+    read: Result<Call, Refusal>,
+) -> Reply
+    requires { EngineInvariant cache.old store.old engine × Ranged read }
+    ensures { ReplyEnsures cache.new store.old store.new engine read result }
+{
+    match read {
+        Ok(call) => respond(store, cache, engine, call),
+        Err(why) => engine::refuse(engine, why),
     }
 }

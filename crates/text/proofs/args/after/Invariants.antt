@@ -1,5 +1,4 @@
-use lib.ListN.{length}
-use Prim.Native.Nat.{◌-◌}
+use Rattle.std.specs.Prelude.{length, ◌-◌}
 use Rattle.text.specs.Args.{ArgsLoop}
 use Rattle.text.proofs.args.after.Given as goal
 

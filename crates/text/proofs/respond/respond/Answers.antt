@@ -1,5 +1,5 @@
 use borrow.Author.Rules.{rules}
-use Rattle.text.specs.RespondLaws.{ranged_as, responds_as, read_ensures_as, pure_ensures_as, refused_line}
+use Rattle.text.specs.RespondLaws.{ranged_as, responds_as, read_ensures_as, pure_ensures_as}
 use Rattle.text.proofs.respond.respond.Goals as goal
 
 pub put-requires : goal.put-requires
@@ -70,6 +70,3 @@ returns-in-On c = search (rules, read_ensures_as)
 
 pub returns-in-Lows : goal.returns-in-Lows
 returns-in-Lows c = search (rules, responds_as)
-
-pub returns-in-Refused : goal.returns-in-Refused
-returns-in-Refused c = search (rules, refused_line)
