@@ -70,7 +70,7 @@ fn call(stdout: Stdout, c: Call) {
 pub fn line(stdout: Stdout, s: &[u8]) {
     match text::line::read(s) {
         Ok(c) => call(stdout, c),
-        Err(r) => one(stdout, b"no", text::answer::refusal_number(r)),
+        Err(r) => one(stdout, b"no", r.number()),
     }
     word(stdout, b"\n");
 }

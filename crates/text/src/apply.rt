@@ -13,8 +13,7 @@ ghost use Rattle.text.specs.Qubits.{qubit_list, AllBelowEight, Rising};
 ghost use Rattle.text.specs.Apply.{Renamable, rename_step, contract_step, apply_step};
 
 use crate::qubits;
-use crate::qubits::Qubits;
-use diagram::gate::{Gate, Qubit};
+use diagram::gate::{Gate, Qubit, Shape};
 use diagram::join::Outcome;
 use diagram::make::State;
 use diagram::node::Edge;
@@ -31,15 +30,15 @@ fn rename(store: &mut [u8], cache: &mut [u64], s: State, a: Edge, q: Qubit) -> O
 }
 
 // "`low` of their fresh indices in rising order"
-fn rename_all(store: &mut [u8], cache: &mut [u64], s: State, a: Edge, qubits: Qubits) -> Outcome
+fn rename_all(store: &mut [u8], cache: &mut [u64], s: State, a: Edge, qubits: Shape) -> Outcome
     requires { OperationRequires cache.old store.old s a a ×
         (AllBelowEight qubits × Renamable (qubit_list qubits) (tensor_of store.old s a)) }
     ensures { RefinesCached cache.new store.old store.new s
         (rename_step (qubit_list qubits) (tensor_of store.old s a)) result }
 {
     match qubits {
-        Qubits::One(q) => rename(store, cache, s, a, q),
-        Qubits::Two(p, q) => {
+        Shape::One(q) => rename(store, cache, s, a, q),
+        Shape::Two(p, q) => {
             let Outcome::Edge(e, t) = rename(store, cache, s, a, p) else {
                 return Outcome::Full;
             };
@@ -55,7 +54,7 @@ fn contract_rename(
     s: State,
     a: Edge,
     x: Edge,
-    qubits: Qubits,
+    qubits: Shape,
 ) -> Outcome
     requires { OperationRequires cache.old store.old s a x
         × (AllBelowEight qubits × Rising indices 0 (qubit_list qubits)) }

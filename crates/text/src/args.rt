@@ -2,7 +2,7 @@
 ghost use Rattle.std.specs.Prelude.{◌≡◌, ◌≤◌, length, Some};
 ghost use Rattle.text.specs.Limits.{most_digits};
 ghost use Rattle.text.specs.Split.{fields_after};
-ghost use Rattle.text.specs.Args.{push as push1, numbers};
+ghost use Rattle.text.specs.Args.{push, numbers};
 
 use crate::{number, split};
 
@@ -17,16 +17,18 @@ pub enum Args {
     Four(usize, usize, usize, usize),
 }
 
-// One number more, if there are at most four then.
-fn push(args: Args, v: usize) -> Option<Args>
-    ensures { result ≡ push1 args v }
-{
-    match args {
-        Args::Zero => Some(Args::One(v)),
-        Args::One(a) => Some(Args::Two(a, v)),
-        Args::Two(a, b) => Some(Args::Three(a, b, v)),
-        Args::Three(a, b, c) => Some(Args::Four(a, b, c, v)),
-        Args::Four(_, _, _, _) => None,
+impl Args {
+    // One number more, if there are at most four then.
+    fn push(self, v: usize) -> Option<Args>
+        ensures { result ≡ push self v }
+    {
+        match self {
+            Args::Zero => Some(Args::One(v)),
+            Args::One(a) => Some(Args::Two(a, v)),
+            Args::Two(a, b) => Some(Args::Three(a, b, v)),
+            Args::Three(a, b, c) => Some(Args::Four(a, b, c, v)),
+            Args::Four(_, _, _, _) => None,
+        }
     }
 }
 
@@ -41,7 +43,7 @@ pub(crate) fn after(line: &[u8], e: usize, most: usize) -> Option<Args>
     while at < line.len() {
         let a = at + 1;
         at = split::end(line, a, b'\t');
-        args = push(args, number::read(&line[a..at], most)?)?;
+        args = args.push(number::read(&line[a..at], most)?)?;
     }
     Some(args)
 }

@@ -1,8 +1,9 @@
 // Calls: the words and numbers of a line, checked field by field from the left.
 #![tactic(auto, unfolding(crate::specs::Args::by_count, crate::specs::Call::call_of))]
 
-ghost use Rattle.std.specs.Prelude.{◌≡◌, Ok};
-ghost use Rattle.text.specs.Call.{check_range, check_register, check_lowered, call_of};
+ghost use Rattle.std.specs.Prelude.{◌≡◌, ◌≤◌, Ok};
+ghost use Rattle.text.specs.Call.{check_range, check_register, check_lowered, call_of, refusal_number};
+ghost use Rattle.text.specs.Limits.{last_weight};
 
 use crate::args::Args;
 use crate::limits::{
@@ -13,16 +14,25 @@ use diagram::gate::{Gate, QubitCount};
 use diagram::node::Index;
 use diagram::registers::RegisterNumber;
 
+// Why a line is refused, with document 01's number.
 #[derive(Clone, Copy)]
 pub enum Refusal {
-    Malformed,
-    Register,
-    Empty,
-    Range,
-    Name,
-    Equal,
-    Depends,
-    Full,
+    Malformed = 1,
+    Register = 2,
+    Empty = 3,
+    Range = 4,
+    Name = 5,
+    Equal = 6,
+    Depends = 7,
+    Full = 8,
+}
+
+impl Refusal {
+    pub fn number(self) -> usize
+        ensures { (result ≡ refusal_number self) × (result ≤ last_weight) }
+    {
+        self as usize
+    }
 }
 
 // A call with its registers, weights, masks, indices and assignments, in the documents' order.

@@ -1,6 +1,7 @@
 // Verdict texts: every line is read, and the first faulty line decides.
 ghost use Rattle.std.specs.Prelude.{◌≡◌, ◌+◌, ◌≤◌, length, drop, None};
 ghost use Rattle.text.specs.Text.{lines};
+ghost use Rattle.text.specs.Ruling.{fault_number};
 ghost use Rattle.text.specs.Names.{one_qubit, two_qubits};
 ghost use Rattle.text.specs.Check.{HeaderRead, ItemRead, IsGate, GateRead, TextRead};
 ghost use Rattle.text.specs.Check.{parting_after, check_lines, one_qubit_item, two_qubit_item};
@@ -11,14 +12,23 @@ use crate::limits::{LineNumber, MOST_DIGITS, MOST_QUBITS};
 use crate::{args, names, split};
 use diagram::gate::{Gate, Qubit, QubitCount};
 
+// Why a text is refused, with document 01's number.
 #[derive(Clone, Copy)]
 pub enum Fault {
-    Header,
-    Line,
-    Qubit,
-    Equal,
-    Parting,
-    Full,
+    Header = 10,
+    Line = 11,
+    Qubit = 12,
+    Equal = 13,
+    Parting = 14,
+    Full = 8,
+}
+
+impl Fault {
+    pub fn number(self) -> usize
+        ensures { (result ≡ fault_number self) × (result ≤ 14) }
+    {
+        self as usize
+    }
 }
 
 // A fault, and the line that has it.

@@ -30,7 +30,7 @@ fn show(stdout: Stdout, checked: Result<Checked, FaultAt>) {
         }
         Err(f) => {
             word(stdout, b"no");
-            number(stdout, text::ruling::fault_number(f.fault));
+            number(stdout, f.fault.number());
             number(stdout, f.line);
         }
     }

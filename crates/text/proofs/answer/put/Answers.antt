@@ -30,7 +30,7 @@ returns-in-Ok c = rw c.in-Ok.is c.pair.ensures
 
 pub returns-in-No : goal.returns-in-No
 unfolding printed line_of_fields labelled_line
-returns-in-No c = rw (c.in-No.is, ← c.refusal_number.ensures.0)
+returns-in-No c = rw (c.in-No.is, ← c.number.ensures.0)
     c.pair-in-No.ensures
 
 pub returns-in-Value : goal.returns-in-Value

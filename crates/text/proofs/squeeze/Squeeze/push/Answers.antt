@@ -1,7 +1,7 @@
 -- One return for each way that a byte is kept or left out.
 use borrow.Author.Rules.{rules}
 use Rattle.text.specs.SqueezeLaws.{push_tab, push_last_tab, push_byte, push_full}
-use Rattle.text.proofs.squeeze.push.Goals as goal
+use Rattle.text.proofs.squeeze.Squeeze.push.Goals as goal
 
 pub returns-then-tabs-lt5 : goal.returns-then-tabs-lt5
 returns-then-tabs-lt5 c = search (rules, push_tab)
