@@ -1,6 +1,6 @@
 -- Laws of Check: a line of a verdict text, read once and again.
 use Rattle.std.specs.Prelude.{◌≡◌, refl, Bool, true, false, not, cond, ◌&&◌, ◌≢◌, List, [], ◌∷◌, ℕ, ◌≤◌, ◌<◌, eqb, leb}
-use Rattle.std.specs.Prelude.{Option, Some, None, Result, Ok, Err}
+use Rattle.std.specs.Prelude.{Option, Some, None, Result, Ok, Err, take}
 use Rattle.std.proofs.Common.{sym, ◌∙◌, arith, ltb-true, leb-true}
 use Rattle.std.proofs.lemmas.Bool.{eqb-false}
 use Rattle.text.specs.Text.{Bytes, bytes, same_bytes, fields, tab, known}
@@ -10,8 +10,8 @@ use Rattle.text.specs.Names.{one_qubit, two_qubits}
 use Rattle.text.specs.Check.{ensured, PlacedItem, one_qubit_item, two_qubit_item, gate_item_of, gate_item_fields}
 use Rattle.text.specs.Check.{item_of}
 use Rattle.text.specs.Check.{ItemRead, GateRead, header_numbers, header_fields, HeaderInRange, header_of, HeaderRead}
-use Rattle.text.specs.Split.{part, Ends, fields_after}
-use Rattle.text.specs.SplitLaws.{fields_first}
+use Rattle.text.specs.Split.{Ends, fields_after}
+use Rattle.text.specs.SplitLaws.{fields_first, part_front}
 use Rattle.text.specs.ArgsLaws.{by_count_lem, known_lem}
 use Rattle.text.specs.NamesLaws.{one_placed, known_placed, two_placed}
 use Rattle.text.specs.declared.check.Fault.{Fault}
@@ -78,9 +78,9 @@ unfolding item_of
 item_parting n s t = rw t
 
 pub item_gate : (n : ℕ) {s : Bytes} {e : ℕ} → Ends tab s 0 e → same_bytes s (bytes "=") ≡ false
-    → known (Err Line) (numbers 1 (Some Zero) (fields_after s e)) (gate_item_of n (part s 0 e)) ≡ item_of n s
+    → known (Err Line) (numbers 1 (Some Zero) (fields_after s e)) (gate_item_of n (take e s)) ≡ item_of n s
 unfolding item_of gate_item_fields
-item_gate n r t = rw (t, fields_first (omega arith) r)
+item_gate n {s} {e} r t = rw (t, fields_first (omega arith) r, part_front s e)
 
 -- The first line's n is 1 to 8.
 
@@ -116,12 +116,12 @@ header_known e = rw (← e)
 pub header_unknown : {o : Option Args} → None ≡ o → None ≡ known None o header_numbers
 header_unknown e = rw (← e)
 
-pub header_lines : {s : Bytes} {e : ℕ} → Ends tab s 0 e → same_bytes (part s 0 e) (bytes "lines") ≡ true
+pub header_lines : {s : Bytes} {e : ℕ} → Ends tab s 0 e → same_bytes (take e s) (bytes "lines") ≡ true
     → known None (numbers most_digits (Some Zero) (fields_after s e)) header_numbers ≡ header_of s
 unfolding header_of header_fields
-header_lines w t = rw (fields_first (omega arith) w, t)
+header_lines {s} {e} w t = rw (fields_first (omega arith) w, part_front s e, t)
 
-pub header_other : {s : Bytes} {e : ℕ} → Ends tab s 0 e → same_bytes (part s 0 e) (bytes "lines") ≡ false
+pub header_other : {s : Bytes} {e : ℕ} → Ends tab s 0 e → same_bytes (take e s) (bytes "lines") ≡ false
     → None ≡ header_of s
 unfolding header_of header_fields
-header_other w t = rw (fields_first (omega arith) w, t)
+header_other {s} {e} w t = rw (fields_first (omega arith) w, part_front s e, t)

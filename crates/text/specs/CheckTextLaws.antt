@@ -1,6 +1,6 @@
 -- A verdict text checked line by line, with the numbers of lines alone, is what the definition says.
 use Rattle.std.specs.Prelude.{◌≡◌, refl, List, [], ◌∷◌, ℕ, ◌+◌, suc, ◌≤◌, ◌<◌, length, drop}
-use Rattle.std.specs.Prelude.{Option, Some, None, Result, Ok, Err, IfOk}
+use Rattle.std.specs.Prelude.{Option, Some, None, Result, Ok, Err, IfOk, take}
 use Rattle.std.proofs.Common.{ap, ◌∙◌, arith}
 use Rattle.text.specs.Text.{Bytes, LF, lines}
 use Rattle.text.specs.Limits.{most_qubits}
@@ -9,7 +9,7 @@ use Rattle.text.specs.Check.{with_second, second_item, second_list, NoFirst, wit
 use Rattle.text.specs.Check.{CheckLoop, ItemRead, read_lines, read_text, TextRead, after_header, HeaderRead}
 use Rattle.text.specs.Check.{CheckedInRange, checked_of, HeaderInRange, good, faulty}
 use Rattle.text.specs.Split.{part, Ends}
-use Rattle.text.specs.SplitLaws.{lines_first, lines_none}
+use Rattle.text.specs.SplitLaws.{lines_first, lines_none, part_front}
 use Rattle.text.specs.declared.check.Checked.{Checked}
 use Rattle.text.specs.declared.check.FaultAt.{FaultAt}
 use Rattle.text.specs.declared.check.Item.{Item}
@@ -117,11 +117,11 @@ pub checked_none : (s : Bytes) → length s ≡ 0 → TextRead s (faulty BadHead
 unfolding read_text read_lines lines
 checked_none s h = record { checked = rw (lines_none s 0 (omega arith)); ranged = tt }
 
-pub checked_bad : {s : Bytes} {e : ℕ} {r : Option ℕ} → (length s ≡ 0 → ⊥) → Ends LF s 0 e → HeaderRead (part s 0 e) r
+pub checked_bad : {s : Bytes} {e : ℕ} {r : Option ℕ} → (length s ≡ 0 → ⊥) → Ends LF s 0 e → HeaderRead (take e s) r
     → r ≡ None
     → TextRead s (faulty BadHeader 1)
 unfolding read_text read_lines after_header
-checked_bad {s} {e} h w r q = record { checked = rw (lines_first (omega arith) w, ← r.header, q); ranged = tt }
+checked_bad {s} {e} h w r q = record { checked = rw (lines_first (omega arith) w, part_front s e, ← r.header, q); ranged = tt }
 
 check_ranged : (n : ℕ) (parting : Option ℕ) (count : ℕ) (ls : List Bytes) → 1 ≤ n → n ≤ most_qubits
     → IfOk (check_lines n parting count ls) CheckedInRange
@@ -142,7 +142,7 @@ first_checked (fault f at) = refl
 
 pub checked_of_lem : {s : Bytes} {e n : ℕ} {r : Option ℕ} {x : Result Checked FaultAt} → (length s ≡ 0 → ⊥)
     → Ends LF s 0 e
-    → HeaderRead (part s 0 e) r → r ≡ Some n
+    → HeaderRead (take e s) r → r ≡ Some n
     → x ≡ check_lines n None 1 (lines (drop (e + 1) s)) → TextRead s x
 unfolding read_text read_lines after_header
 checked_of_lem {s} {e} {n} {r} {x} h w i q o =
@@ -150,6 +150,6 @@ checked_of_lem {s} {e} {n} {r} {x} h w i q o =
     let small : HeaderInRange (Some n) = rw q at i.ranged in
     record {
       checked =
-          o ∙ check_first n 1 ls ∙ rw (lines_first (omega arith) w, ← i.header, q) (first_checked (first_list n 2 ls));
+          o ∙ check_first n 1 ls ∙ rw (lines_first (omega arith) w, part_front s e, ← i.header, q) (first_checked (first_list n 2 ls));
       ranged = rw o (check_ranged n None 1 ls small.0 small.1);
     }

@@ -139,6 +139,10 @@ parts_end {b} {s} {a} {e} none o r h n =
     rw (take_all (e - a) (drop a s) (omega (arith, length-drop a s)))
     (parts_whole b none o (drop a s) (omega (arith, length-drop a s)) (omega (arith, length-drop a s)))
 
+-- the part at the front, `&s[..e]`
+pub part_front : (s : Bytes) (e : ℕ) → part s 0 e ≡ take e s
+part_front s e = let z : e - 0 ≡ e = omega arith in rw z
+
 -- a part is a word, as `==` says it
 pub same_word : (s : Bytes) {w x : Bytes} {b : Bool} → b ≡ same_bytes s x → x ≡ w → same_bytes s w ≡ b
 same_word s p q = sym (rw q at p)

@@ -29,6 +29,14 @@ fn pair(out: &mut [u8], at: usize, word: &[u8], n: usize) -> usize
     print::put_bytes(out, e, b"\n")
 }
 
+#[tactic(
+    auto,
+    unfolding(
+        crate::specs::Answer::printed,
+        crate::specs::Answer::line_of_fields,
+        crate::specs::Answer::labelled_line
+    )
+)]
 fn put(out: &mut [u8], at: usize, answer: Answer) -> usize
     requires { (at + answer_room ≤ length out.old) × SmallAnswer answer }
     ensures { WriteEnsures out.old at (printed answer) out.new result }

@@ -94,10 +94,9 @@ fn read(n: QubitCount, line: &[u8]) -> Result<Item, Fault>
     if line == b"=".as_slice() {
         return Ok(Item::Parting);
     }
-    let a = 0;
-    let e = split::end(line, a, b'\t');
+    let e = split::end(line, 0, b'\t');
     let qubits = args::after(line, e, 1).ok_or(Fault::Line)?;
-    gate_item(n, &line[a..e], qubits)
+    gate_item(n, &line[..e], qubits)
 }
 
 // The gate of a good gate line, when a good text is read again.
@@ -125,9 +124,8 @@ fn header_number(args: Args) -> Option<QubitCount>
 fn read_header(line: &[u8]) -> Option<QubitCount>
     ensures { HeaderRead line.now result }
 {
-    let a = 0;
-    let e = split::end(line, a, b'\t');
-    if &line[a..e] == b"lines".as_slice() {
+    let e = split::end(line, 0, b'\t');
+    if &line[..e] == b"lines".as_slice() {
         return header_number(args::after(line, e, MOST_DIGITS)?);
     }
     None
@@ -181,8 +179,7 @@ pub fn check(text: &[u8]) -> Result<Checked, FaultAt>
     if text.is_empty() {
         return Err(header);
     }
-    let a = 0;
-    let e = split::end(text, a, b'\n');
-    let n = read_header(&text[a..e]).ok_or(header)?;
+    let e = split::end(text, 0, b'\n');
+    let n = read_header(&text[..e]).ok_or(header)?;
     check_lines(text, e + 1, n)
 }

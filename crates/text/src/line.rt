@@ -9,9 +9,8 @@ use crate::{args, call, gate, split, words};
 pub fn read(line: &[u8]) -> Result<Call, Refusal>
     ensures { LineRead line.now result }
 {
-    let a = 0;
-    let e = split::end(line, a, b'\t');
-    let word = &line[a..e];
+    let e = split::end(line, 0, b'\t');
+    let word = &line[..e];
     if word == b"gate".as_slice() {
         return gate::read(line, e);
     }
