@@ -19,8 +19,8 @@ ghost use Rattle.session.specs.Session.{SessionEnsures};
 use feed::SessionState;
 use outcome::{Ending, Outcome};
 use std::io::{Print, Stderr, Stdin, Stdout};
-use text::limits::LINE_ROOM;
 use text::engine;
+use text::limits::LINE_ROOM;
 use text::squeeze::Squeeze;
 
 // 2048 nodes of 16 bytes.

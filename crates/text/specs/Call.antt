@@ -56,14 +56,18 @@ call_of Put = two_numbers malformed (λ d w. check_register d (check_range w 0 l
 -- "`unit d n`: n 1 to 8"
 call_of UnitWord = two_numbers malformed (λ d n. check_register d (check_range n 1 most_qubits (Ok (call.Unit d n))))
 -- "`add d a b`: sum."
-call_of Add = three_numbers malformed (λ d a b. check_register d (check_register a (check_register b (Ok (call.Add d a b)))))
+call_of Add =
+    three_numbers malformed
+    (λ d a b. check_register d (check_register a (check_register b (Ok (call.Add d a b)))))
 -- "`cont d a b m`: bits of m, at most 16777215, are S."
 call_of Cont =
     four_numbers malformed
-    (λ d a b m. check_register d (check_register a (check_register b (check_range m 0 last_mask (Ok (call.Cont d a b m))))))
+    (λ d a b m. check_register d (check_register a (check_register b
+    (check_range m 0 last_mask (Ok (call.Cont d a b m))))))
 -- "`low d a k`: k 1 to 23."
 call_of Low =
-    three_numbers malformed (λ d a k. check_register d (check_register a (check_range k 1 last_index (Ok (call.Low d a k)))))
+    three_numbers malformed
+    (λ d a k. check_register d (check_register a (check_range k 1 last_index (Ok (call.Low d a k)))))
 -- "`drop a`: empties a."
 call_of Drop = one_number malformed (λ a. check_register a (Ok (call.Drop a)))
 -- "`collect`: refuses 1."

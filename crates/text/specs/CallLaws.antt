@@ -1,5 +1,6 @@
 -- Laws of Call: what a call carries is in range.
-use Rattle.std.specs.Prelude.{◌≡◌, refl, Bool, true, false, cond, ◌&&◌, ◌≢◌, ℕ, ◌%◌, ◌≤◌, ◌<◌, leb, eqb, Result, Ok, Err}
+use Rattle.std.specs.Prelude.{◌≡◌, refl, Bool, true, false, cond, ◌&&◌, ◌≢◌, ℕ, ◌%◌, ◌≤◌, ◌<◌, leb, eqb, Result, Ok}
+use Rattle.std.specs.Prelude.{Err}
 use Rattle.std.proofs.Common.{arith, leb-true, eq-eqb, ne_eqb}
 use Rattle.std.proofs.lemmas.Bool.{eqb-false}
 use Rattle.diagram.specs.Tensor.{bits, masks}
@@ -30,7 +31,8 @@ on_four : (f : ℕ → ℕ → ℕ → ℕ → Result Call Refusal) → ((a b c 
     → Ranged (four_numbers malformed f x)
 on_four f h = by_count_lem Ranged _ _ _ _ f tt (λ a. tt) (λ a b. tt) (λ a b c. tt) h
 
-pub on_register : (d : ℕ) (next : Result Call Refusal) → (d < register_count → Ranged next) → Ranged (check_register d next)
+pub on_register : (d : ℕ) (next : Result Call Refusal) → (d < register_count → Ranged next)
+    → Ranged (check_register d next)
 on_register d next f = go (leb d last_register) refl
   where
     go : (t : Bool) → leb d last_register ≡ t → Ranged (cond t next (Err Register))
@@ -55,7 +57,8 @@ pub lowered_even : {A : Type 0} (m : ℕ) (next : Result A Refusal) → m % 2 �
 unfolding bits
 lowered_even m next n = rw (ne_eqb (m % 2) 1 n)
 
-on_lowered : (m : ℕ) (next : Result Call Refusal) → (bits m 0 ≡ false → m < masks → Ranged next) → Ranged (check_lowered m next)
+on_lowered : (m : ℕ) (next : Result Call Refusal) → (bits m 0 ≡ false → m < masks → Ranged next)
+    → Ranged (check_lowered m next)
 on_lowered m next f = go (bits m 0) refl
   where
     go : (t : Bool) → bits m 0 ≡ t → Ranged (cond t (Err Range) (check_range m 0 last_mask next))

@@ -70,7 +70,8 @@ item_placed n line = go (same_bytes line (bytes "="))
 pub item_read : {n : ℕ} {line : Bytes} {r : Result Item Fault} → r ≡ item_of n line → ItemRead n line r
 item_read {n} {line} e = record { item = e; placed = rw e (item_placed n line) }
 
-pub gate_read : {n : ℕ} {line : Bytes} {r : Result Item Fault} {g : Gate} → ItemRead n line r → r ≡ Ok (item.Gate g) → GateRead n line g
+pub gate_read : {n : ℕ} {line : Bytes} {r : Result Item Fault} {g : Gate} → ItemRead n line r
+    → r ≡ Ok (item.Gate g) → GateRead n line g
 gate_read i e = record { gate = sym i.item ∙ e; placed = rw e at i.placed }
 
 pub item_parting : (n : ℕ) (s : Bytes) → same_bytes s (bytes "=") ≡ true → Ok item.Parting ≡ item_of n s

@@ -6,7 +6,8 @@ use Rattle.std.proofs.Common.{ap, ◌∙◌, sym, arith}
 use Rattle.std.proofs.Math.Decide.{dec_lt}
 use Rattle.text.specs.Text.{Bytes, lines, LF}
 use Rattle.text.specs.Check.{items, NextItem, gate_items, Reading, lists, fault, item_of, with_second, second_item}
-use Rattle.text.specs.Check.{second_list, with_first, first_item, first_list, NoFirst, GoodText, read_text, checked_of, good}
+use Rattle.text.specs.Check.{second_list, with_first, first_item, first_list, NoFirst, GoodText, read_text}
+use Rattle.text.specs.Check.{checked_of, good}
 use Rattle.text.specs.Check.{header_of, after_header, read_lines}
 use Rattle.text.specs.Split.{part, Ends}
 use Rattle.text.specs.SplitLaws.{lines_first, lines_none, head_same, tail_same}
@@ -17,7 +18,8 @@ use Rattle.text.specs.declared.check.FaultAt.{FaultAt}
 use Rattle.diagram.specs.declared.gate.Gate.{Gate}
 use Rattle.text.specs.declared.check.Item.TheVariants as item
 
-pub items_next : (n : ℕ) (s : Bytes) (a : ℕ) {i : Result Item Fault} {more : List (Result Item Fault)} → items n (lines (drop a s)) ≡ i ∷ more
+pub items_next : (n : ℕ) (s : Bytes) (a : ℕ) {i : Result Item Fault} {more : List (Result Item Fault)}
+    → items n (lines (drop a s)) ≡ i ∷ more
     → NextItem n s a i more
 unfolding items
 items_next n s a {i} {more} e = elim (dec_lt a (length s)) [ yes h ↦ there h | no h ↦ absurd (none (omega arith)) ]
@@ -52,7 +54,8 @@ unfolding items gate_items second_list second_item with_second
 second_items n at [] = (refl, refl)
 second_items n at (line ∷ ls) = go (item_of n line) (second_list n (at + 1) ls) (second_items n (at + 1) ls)
   where
-    go : (i : Result Item Fault) (r : Reading) → Second n r (items n ls) → Second n (second_item i at r) (i ∷ items n ls)
+    go : (i : Result Item Fault) (r : Reading) → Second n r (items n ls)
+        → Second n (second_item i at r) (i ∷ items n ls)
     go (Ok (item.Gate g)) (lists m gs hs) h = (h.0, ap (λ (is : List (Result Item Fault)). Ok (item.Gate g) ∷ is) h.1)
     go (Ok (item.Gate g)) (fault f at') h = tt
     go (Ok item.Parting) r h = tt
@@ -67,9 +70,11 @@ first_items n at (line ∷ ls) =
   where
     go : (i : Result Item Fault) (r q : Reading) → First n r (items n ls) → Second n q (items n ls) → NoFirst q
         → First n (first_item i at r q) (i ∷ items n ls)
-    go (Ok (item.Gate g)) (lists m gs hs) q h k z = (h.0, ap (λ (is : List (Result Item Fault)). Ok (item.Gate g) ∷ is) h.1)
+    go (Ok (item.Gate g)) (lists m gs hs) q h k z =
+        (h.0, ap (λ (is : List (Result Item Fault)). Ok (item.Gate g) ∷ is) h.1)
     go (Ok (item.Gate g)) (fault f at') q h k z = tt
-    go (Ok item.Parting) r (lists m gs hs) h k z = (k.0, rw z (ap (λ (is : List (Result Item Fault)). Ok item.Parting ∷ is) k.1))
+    go (Ok item.Parting) r (lists m gs hs) h k z =
+        (k.0, rw z (ap (λ (is : List (Result Item Fault)). Ok item.Parting ∷ is) k.1))
     go (Ok item.Parting) r (fault f at') h k z = tt
     go (Err f) r q h k z = tt
 

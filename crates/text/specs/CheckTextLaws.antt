@@ -121,7 +121,8 @@ pub checked_bad : {s : Bytes} {e : ℕ} {r : Option ℕ} → (length s ≡ 0 →
     → r ≡ None
     → TextRead s (faulty BadHeader 1)
 unfolding read_text read_lines after_header
-checked_bad {s} {e} h w r q = record { checked = rw (lines_first (omega arith) w, part_front s e, ← r.header, q); ranged = tt }
+checked_bad {s} {e} h w r q =
+    record { checked = rw (lines_first (omega arith) w, part_front s e, ← r.header, q); ranged = tt }
 
 check_ranged : (n : ℕ) (parting : Option ℕ) (count : ℕ) (ls : List Bytes) → 1 ≤ n → n ≤ most_qubits
     → IfOk (check_lines n parting count ls) CheckedInRange
@@ -150,6 +151,7 @@ checked_of_lem {s} {e} {n} {r} {x} h w i q o =
     let small : HeaderInRange (Some n) = rw q at i.ranged in
     record {
       checked =
-          o ∙ check_first n 1 ls ∙ rw (lines_first (omega arith) w, part_front s e, ← i.header, q) (first_checked (first_list n 2 ls));
+          o ∙ check_first n 1 ls
+          ∙ rw (lines_first (omega arith) w, part_front s e, ← i.header, q) (first_checked (first_list n 2 ls));
       ranged = rw o (check_ranged n None 1 ls small.0 small.1);
     }

@@ -27,7 +27,8 @@ use Rattle.text.specs.Text.{Bytes}
 use Rattle.text.specs.Limits.{answer_room}
 use Rattle.text.specs.Call.{InRange, Ranged}
 use Rattle.text.specs.Line.{read_line}
-use Rattle.text.specs.Session.{Capacity, fits, Tally, TallyReply, answer, answer_read, accept, refuse, settle, with_tensor}
+use Rattle.text.specs.Session.{Capacity, fits, Tally, TallyReply, answer, answer_read, accept, refuse, settle}
+use Rattle.text.specs.Session.{with_tensor}
 use Rattle.text.specs.Session.{with_register, empty_tally, TallyRun, empty_run, with_answer, stopped_run, run}
 use Rattle.text.specs.Complete.{AllCovered, LowBelow, Complete}
 use Rattle.text.specs.LineLaws.{line_ranged}
@@ -211,7 +212,8 @@ module _ (c : Capacity) (room : ℕ) where
       (lines_complete ls (with_answer r (answer_read c (read_line l) r.tally)) (line_complete l r.tally k))
     where
       go : (b : Bool) → Complete (run c room ls (with_answer r (answer_read c (read_line l) r.tally))).tally
-          → Complete (cond b (run c room ls (with_answer r (answer_read c (read_line l) r.tally))) (stopped_run r)).tally
+          → Complete (cond b (run c room ls (with_answer r (answer_read c (read_line l) r.tally)))
+          (stopped_run r)).tally
       go true h = h
       go false h = k
 

@@ -22,7 +22,8 @@ use Rattle.diagram.specs.CompareLaws.{grow_compared}
 use Rattle.text.specs.Text.{lines}
 use Rattle.text.specs.Limits.{answer_room}
 use Rattle.text.specs.Line.{read_line}
-use Rattle.text.specs.Session.{comparison, Capacity, fits, Tally, TallyReply, node_count, answer, answer_read, accept, refuse}
+use Rattle.text.specs.Session.{comparison, Capacity, fits, Tally, TallyReply, node_count, answer, answer_read, accept}
+use Rattle.text.specs.Session.{refuse}
 use Rattle.text.specs.Session.{settle, with_tensor, with_register, TallyRun, with_answer, stopped_run, run}
 use Rattle.text.specs.Session.{empty_tally, empty_run, session}
 use Rattle.text.specs.Check.{Reading, lists, fault, read_text}
@@ -30,7 +31,8 @@ use Rattle.text.specs.Qubits.{qubits_on, qubits}
 use Rattle.text.specs.VerdictSession.{NumberedCall, PerformResult, continue_with, perform, refused_at, ended_with}
 use Rattle.text.specs.VerdictSession.{ruling_of_answer, ruling_at_end, session_calls, ruling_of_reading, ruling_on}
 use Rattle.text.specs.VerdictSession.{verdict_result}
-use Rattle.text.specs.GrowSession.{qubits_below, touches, read_touches, all_touch, lines_touch, grow_register, grow_registers}
+use Rattle.text.specs.GrowSession.{qubits_below, touches, read_touches, all_touch, lines_touch, grow_register}
+use Rattle.text.specs.GrowSession.{grow_registers}
 use Rattle.text.specs.GrowSession.{grow_tally, grow_reply, grow_result, grow_run, reading_touches}
 use Rattle.diagram.specs.declared.gate.Gate.{Gate}
 use Rattle.diagram.specs.declared.gate.Shape.{Shape}

@@ -34,7 +34,7 @@ unfolding call_fields
 fields_ranged [] = tt
 fields_ranged (w ∷ fs) = go (same_bytes w (bytes "gate"))
   where
-    go : (t : Bool) → Ranged (cond t (gate_call_fields fs) 
+    go : (t : Bool) → Ranged (cond t (gate_call_fields fs)
         (known malformed (word_of w) (λ w. known malformed (numbers most_digits (Some Zero) fs) (call_of w))))
     go true = gate_fields_ranged fs
     go false =

@@ -135,7 +135,8 @@ abbrev pub ListEnsures : GateList → List ℕ → List ℕ → List ℕ → Lis
 ListEnsures l s c' s' a x = LinesEnsures l (whole_part l a) s c' s' a x
 
 -- the loop over a list's gate lines, whose gates are gs: those in `left` are still to be run
-pub record GatesReached (l : GateList) (a : ListState) (s₀ : List ℕ) (gs : List Gate) (rest : List (Result Item Fault)) (s : List ℕ)
+pub record GatesReached (l : GateList) (a : ListState) (s₀ : List ℕ) (gs : List Gate)
+    (rest : List (Result Item Fault)) (s : List ℕ)
     (p : ListState) : Type 0 where
   pub left : List Gate
   pub counted : p.line + length left ≡ a.line + l.count
@@ -150,4 +151,5 @@ pub record GatesLoop (l : GateList) (a : ListState) (s₀ c s : List ℕ) (i : �
   pub within : i ≤ l.count
   pub passed : p.line ≤ p.place
   pub line : p.line ≡ a.line + i
-  pub each : (gs : List Gate) (rest : List (Result Item Fault)) → GateLines l a.place gs rest → GatesReached l a s₀ gs rest s p
+  pub each : (gs : List Gate) (rest : List (Result Item Fault)) → GateLines l a.place gs rest
+      → GatesReached l a s₀ gs rest s p

@@ -152,7 +152,8 @@ module _ {text : Bytes} {n r count : ℕ} {a : ListState} {s₀ c s : List ℕ} 
     each = each;
   }
     where
-      each : (gs : List Gate) (rest : List (Result Item Fault)) → GateLines l a.place gs rest → GatesReached l a s₀ gs rest s' y
+      each : (gs : List Gate) (rest : List (Result Item Fault)) → GateLines l a.place gs rest
+          → GatesReached l a s₀ gs rest s' y
       each gs rest ls =
           let v = g.each gs rest ls in
           let d = gate_left h v in
@@ -229,7 +230,8 @@ module _ {text : Bytes} {n r count : ℕ} {a : ListState} {s₀ c s : List ℕ} 
 
 -- a whole list
 
-gate_lines_next : {l : GateList} {a x : ListState} {gs : List Gate} {rest : List (Result Item Fault)} → LinePassed l.text a x
+gate_lines_next : {l : GateList} {a x : ListState} {gs : List Gate} {rest : List (Result Item Fault)}
+    → LinePassed l.text a x
     → GateLines l (next_line l.text a.place) gs rest
     → GateLines l x.place gs rest
 gate_lines_next m ls = rw m.place ls
@@ -266,7 +268,8 @@ list_ensures {l} {s} {c₁} {s₁} {c'} {s'} {a} {x} {y} m o w =
             ≡ ruling_from_state (at_most (capacity s)) more s' y
         gates_then more d = rw (← o.passes.line, ← m) (d.is more)
 
-    ends : (gs : List Gate) (rest : List (Result Item Fault)) → GateLines l (next_line l.text a.place) gs rest → y.refused
+    ends : (gs : List Gate) (rest : List (Result Item Fault)) → GateLines l (next_line l.text a.place) gs rest
+        → y.refused
         ≡ false
         → ListEnds l (1 + l.count) rest a y
     ends gs rest ls z =

@@ -1,5 +1,6 @@
 -- Laws of Print: bytes written behind others, and the digits of a number.
-use Rattle.std.specs.Prelude.{◌≡◌, refl, [], ◌∷◌, ◌++◌, cond, Bool, true, false, ℕ, suc, ◌+◌, ◌-◌, ◌≤◌, ◌<◌, zero, ◌/◌, ◌%◌}
+use Rattle.std.specs.Prelude.{◌≡◌, refl, [], ◌∷◌, ◌++◌, cond, Bool, true, false, ℕ, suc, ◌+◌, ◌-◌, ◌≤◌, ◌<◌, zero}
+use Rattle.std.specs.Prelude.{◌/◌, ◌%◌}
 use Rattle.std.specs.Prelude.{◌^◌, length, set, take, get_or, drop, ltb}
 use Rattle.std.proofs.Common.{ap, sym, ◌∙◌, append-nil, arith, add-zero, pow-suc, div-lt_iff_lt-mul, add-one}
 use Rattle.std.proofs.Common.{take-append-drop, length-append, length-set, take-suc, length-take-le, take_all, lt-ltb}

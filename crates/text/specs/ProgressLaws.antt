@@ -36,9 +36,8 @@ use Rattle.text.specs.declared.progress.SessionResult.{SessionResult}
 
 -- a line
 
-pub answer_line_ensures : {line : Bytes} {next : ℕ} {s c' s' : List ℕ} {o o' : Bytes} {p : Progress} {x : Result Call Refusal}
-    {y : Reply}
-    {n : ℕ} → LineRead line x
+pub answer_line_ensures : {line : Bytes} {next : ℕ} {s c' s' : List ℕ} {o o' : Bytes} {p : Progress}
+    {x : Result Call Refusal} {y : Reply} {n : ℕ} → LineRead line x
     → ReplyEnsures c' s s' p.engine x y → AnswerWritten o p.bytes y.answer o' n
     → p.bytes + answer_room ≤ length o
     → AnswerLineEnsures line next s c' s' o o' p

@@ -16,7 +16,8 @@ use Rattle.text.specs.Text.{Bytes}
 use Rattle.text.specs.Limits.{answer_room}
 use Rattle.text.specs.Line.{read_line}
 use Rattle.text.specs.Answer.{is_no}
-use Rattle.text.specs.Session.{Capacity, answer, answer_read, TallyRun, with_answer, stopped_run, run, Tally, TallyReply, fits}
+use Rattle.text.specs.Session.{Capacity, answer, answer_read, TallyRun, with_answer, stopped_run, run, Tally}
+use Rattle.text.specs.Session.{TallyReply, fits}
 use Rattle.text.specs.Session.{accept, refuse, settle, with_tensor, with_register, at_most, unlimited, node_count}
 use Rattle.text.specs.declared.call.Refusal.TheVariants.{Full, Depends}
 use Rattle.text.specs.declared.call.Call.{Call}
@@ -171,7 +172,8 @@ run_fits c room (l ∷ ls) r h =
     go (leb (length r.output + answer_room) room)
     (run_fits c room ls (with_answer r (answer_read c (read_line l) r.tally)) (read_fits c r.tally h (read_line l)))
   where
-    go : (b : Bool) → fits c (node_count (run c room ls (with_answer r (answer_read c (read_line l) r.tally))).tally) ≡ true
+    go : (b : Bool)
+        → fits c (node_count (run c room ls (with_answer r (answer_read c (read_line l) r.tally))).tally) ≡ true
         → fits c (node_count (cond b (run c room ls (with_answer r (answer_read c (read_line l) r.tally)))
         (stopped_run r)).tally) ≡ true
     go true p = p

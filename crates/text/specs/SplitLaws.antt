@@ -114,7 +114,7 @@ unfolding end_from
 ends_at {b} {s} {a} {r} h e =
     let most = upto_most b (drop a s) in
     let place : unwrap_or r (length (drop a s)) ≡ count_before b (drop a s) =
-            rw (e, ← count_position b (drop a s)) (found (count_before b (drop a s)) (length (drop a s)) most) in
+    rw (e, ← count_position b (drop a s)) (found (count_before b (drop a s)) (length (drop a s)) most) in
     record { place = rw place; from = omega arith; within = rw place (omega (arith, most, length-drop a s)) }
   where
     found : (n m : ℕ) → n ≤ m → unwrap_or (cond (ltb n m) (Some n) None) m ≡ n

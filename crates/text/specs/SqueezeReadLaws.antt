@@ -257,7 +257,8 @@ call_cut : (fs : List Bytes) → call_fields (trimmed 6 fs) ≡ call_fields fs
 unfolding call_fields
 call_cut [] = refl
 call_cut (f ∷ fs) =
-    let args = numbers_cut (says_call (word_of f)) 5 (omega arith) (call_wrong (word_of f)) 5 (Some Zero) fs (omega arith) in
+    let args =
+            numbers_cut (says_call (word_of f)) 5 (omega arith) (call_wrong (word_of f)) 5 (Some Zero) fs (omega arith) in
     rw (known_cut f (bytes "gate") refl, gate_cut fs, word_cut f, args)
 
 pub read_line_squeezed : (s : Bytes) → read_line (squeezed s) ≡ read_line s

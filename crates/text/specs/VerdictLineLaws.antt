@@ -31,7 +31,8 @@ unfolding second_list second_item with_second
 second_within n at [] = omega arith
 second_within n at (line ∷ ls) = go (item_of n line) (second_list n (at + 1) ls) (second_within n (at + 1) ls)
   where
-    go : (i : Result Item Fault) (r : Reading) → LinesWithin 0 (at + 1) ls r → LinesWithin 0 at (line ∷ ls) (second_item i at r)
+    go : (i : Result Item Fault) (r : Reading) → LinesWithin 0 (at + 1) ls r
+        → LinesWithin 0 at (line ∷ ls) (second_item i at r)
     go (Ok (item.Gate g)) (lists m gs hs) h = omega arith
     go (Ok (item.Gate g)) (fault f l) h = omega arith
     go (Ok item.Parting) r h = omega arith
@@ -44,7 +45,8 @@ first_within n at (line ∷ ls) =
     go (item_of n line) (first_list n (at + 1) ls) (first_within n (at + 1) ls) (second_list n (at + 1) ls)
     (second_within n (at + 1) ls)
   where
-    go : (i : Result Item Fault) (r : Reading) → LinesWithin 1 (at + 1) ls r → (q : Reading) → LinesWithin 0 (at + 1) ls q
+    go : (i : Result Item Fault) (r : Reading) → LinesWithin 1 (at + 1) ls r → (q : Reading)
+        → LinesWithin 0 (at + 1) ls q
         → LinesWithin 1 at (line ∷ ls) (first_item i at r q)
     go (Ok (item.Gate g)) (lists m gs hs) h q k = omega arith
     go (Ok (item.Gate g)) (fault f l) h q k = omega arith

@@ -110,7 +110,8 @@ good_lists text {n} {gs} {hs} e = by_lines (lines text) e
         }
     by_reading m (fault f line) l h q = absurd (let z : ◌≡◌ {A = ℕ} 0 1 = cc in omega arith)
 
-    by_header : (h : Option ℕ) → HeaderInRange h → (ls : List Bytes) → after_header h ls ≡ lists n gs hs → GoodLists n gs
+    by_header : (h : Option ℕ) → HeaderInRange h → (ls : List Bytes) → after_header h ls ≡ lists n gs hs
+        → GoodLists n gs
         hs
     by_header None l ls q = absurd (let z : ◌≡◌ {A = ℕ} 0 1 = unfold after_header in cc in omega arith)
     by_header (Some m) l ls q = by_reading m (first_list m 2 ls) l (first_good m 2 ls) (unfold after_header in q)

@@ -9,6 +9,7 @@ use crate::limits::{Mask, Weight};
 use crate::print;
 use diagram::node::NodeCount;
 
+// What a line is answered: a refusal is one of the answers in document 01, so it stands among them and not in a `Result`.
 #[derive(Clone, Copy)]
 pub enum Answer {
     Ok(NodeCount),
@@ -29,14 +30,7 @@ fn pair(out: &mut [u8], at: usize, word: &[u8], n: usize) -> usize
     print::put_bytes(out, e, b"\n")
 }
 
-#[tactic(
-    auto,
-    unfolding(
-        crate::specs::Answer::printed,
-        crate::specs::Answer::line_of_fields,
-        crate::specs::Answer::labelled_line
-    )
-)]
+#[tactic(auto, unfolding(crate::specs::Answer::printed, crate::specs::Answer::line_of_fields))]
 fn put(out: &mut [u8], at: usize, answer: Answer) -> usize
     requires { (at + answer_room ≤ length out.old) × SmallAnswer answer }
     ensures { WriteEnsures out.old at (printed answer) out.new result }

@@ -40,6 +40,7 @@ pub(crate) fn after(line: &[u8], e: usize, most: usize) -> Option<Args>
 {
     let mut args = Args::Zero;
     let mut at = e;
+    // The place goes from field to field, past bytes that `split::end` has passed.
     while at < line.len() {
         let a = at + 1;
         at = split::end(line, a, b'\t');

@@ -108,12 +108,7 @@ fn add(d: RegisterNumber, a: RegisterNumber, b: RegisterNumber) -> Result<Call, 
     Ok(Call::Add(d, a, b))
 }
 
-fn cont(
-    d: RegisterNumber,
-    a: RegisterNumber,
-    b: RegisterNumber,
-    m: Mask,
-) -> Result<Call, Refusal>
+fn cont(d: RegisterNumber, a: RegisterNumber, b: RegisterNumber, m: Mask) -> Result<Call, Refusal>
     ensures { result ≡ call_of Word.Cont (Args.Four d a b m) }
 {
     check_register(d)?;

@@ -158,6 +158,7 @@ fn check_lines(text: &[u8], start: usize, n: QubitCount) -> Result<Checked, Faul
     let mut a = start;
     let mut count = 1;
     let mut parting = None;
+    // The place goes from line to line, past bytes that `split::end` has passed.
     while a < text.len() {
         let e = split::end(text, a, b'\n');
         let line = count + 1;
@@ -167,7 +168,10 @@ fn check_lines(text: &[u8], start: usize, n: QubitCount) -> Result<Checked, Faul
     }
     match parting {
         Some(parting) => Ok(Checked { n, parting, count }),
-        None => Err(FaultAt { fault: Fault::Parting, line: count + 1 }),
+        None => Err(FaultAt {
+            fault: Fault::Parting,
+            line: count + 1,
+        }),
     }
 }
 
@@ -175,7 +179,10 @@ fn check_lines(text: &[u8], start: usize, n: QubitCount) -> Result<Checked, Faul
 pub fn check(text: &[u8]) -> Result<Checked, FaultAt>
     ensures { TextRead text.now result }
 {
-    let header = FaultAt { fault: Fault::Header, line: 1 };
+    let header = FaultAt {
+        fault: Fault::Header,
+        line: 1,
+    };
     if text.is_empty() {
         return Err(header);
     }

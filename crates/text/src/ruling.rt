@@ -8,6 +8,7 @@ use crate::check::Fault;
 use crate::limits::{LineNumber, Weight};
 use crate::{answer, print};
 
+// What a text is answered: as in sessions, `no` is one of the answers.
 #[derive(Clone, Copy)]
 pub enum Ruling {
     Same,

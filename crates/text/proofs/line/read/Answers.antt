@@ -8,7 +8,8 @@ use Rattle.text.specs.declared.call.Refusal.TheVariants.{Malformed}
 use Rattle.text.proofs.line.read.Goals as goal
 
 pub returns-then-eq : goal.returns-then-eq
-returns-then-eq c = line_read (c.read.ensures ∙ line_gate c.end-e.ensures (same_word _ c.if-eq.ensures c.as_slice.ensures))
+returns-then-eq c = line_read (c.read.ensures
+    ∙ line_gate c.end-e.ensures (same_word _ c.if-eq.ensures c.as_slice.ensures))
 
 pub returns-in_err-word : goal.returns-in_err-word
 returns-in_err-word c =
