@@ -1,8 +1,7 @@
 -- The numbers of a line (document 01, "Session calls"), and how the code gathers them.
-use Rattle.std.specs.Prelude.{List, [], ◌∷◌, ◌≡◌, ℕ, ◌≤◌, length, Option, Some, None}
+use Rattle.std.specs.Prelude.{List, [], ◌∷◌, ◌≡◌, ℕ, drop, Option, Some, None}
 use Rattle.text.specs.Text.{Bytes}
 use Rattle.text.specs.Number.{number_of}
-use Rattle.text.specs.Split.{fields_after}
 use Rattle.text.specs.declared.args.Args.{Args}
 use Rattle.text.specs.declared.args.Args.TheVariants.{Zero, One, Two, Three, Four}
 
@@ -51,7 +50,6 @@ four_numbers wrong f = by_count wrong (λ a. wrong) (λ a b. wrong) (λ a b c. w
 abbrev pub one_or_two_numbers : {A : Type 0} → A → (ℕ → A) → (ℕ → ℕ → A) → Args → A
 one_or_two_numbers wrong f g = by_count wrong f g (λ a b c. wrong) (λ a b c d. wrong)
 
--- the fields up to the one that ends at e have been read
-pub record ArgsLoop (most : ℕ) (s : Bytes) (e0 : ℕ) (args : Args) (e : ℕ) : Type 0 where
-  pub within : e ≤ length s
-  pub same : numbers most (Some args) (fields_after s e) ≡ numbers most (Some Zero) (fields_after s e0)
+-- the first n of these fields have been read
+pub record ArgsLoop (most : ℕ) (fs : List Bytes) (args : Args) (n : ℕ) : Type 0 where
+  pub same : numbers most (Some args) (drop n fs) ≡ numbers most (Some Zero) fs

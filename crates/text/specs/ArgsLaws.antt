@@ -1,12 +1,12 @@
 -- Laws of Args: the numbers, from the left.
-use Rattle.std.specs.Prelude.{refl, ◌≡◌, ℕ, ◌≤◌, ◌+◌, ◌<◌, length, List, [], ◌∷◌, Option, Some, None, Result, Ok, Err}
+use Rattle.std.specs.Prelude.{refl, ◌≡◌, ℕ, ◌≤◌, ◌+◌, ◌<◌, length, drop, get_or, List, [], ◌∷◌, Option, Some, None, Result, Ok, Err}
 use Rattle.std.specs.Option.{ok_or}
-use Rattle.std.proofs.Common.{sym, ◌∙◌}
-use Rattle.text.specs.Text.{Bytes, tab, known}
+use Rattle.std.proofs.Common.{sym, ◌∙◌, arith, add-one, drop-cons, drop_of_length-le}
+use Rattle.text.specs.Text.{Bytes, known}
 use Rattle.text.specs.Number.{number_of}
 use Rattle.text.specs.Args.{ArgsLoop, push, push_number, numbers, by_count}
-use Rattle.text.specs.Split.{part, Ends, fields_after}
-use Rattle.text.specs.SplitLaws.{rest_first, rest_none}
+use Rattle.text.specs.Split.{fields_after}
+use Rattle.text.specs.SplitLaws.{rest_none}
 use Rattle.text.specs.declared.args.Args.TheVariants.{Zero, One, Two, Three, Four}
 use Rattle.text.specs.declared.args.Args.{Args}
 
@@ -16,33 +16,37 @@ unfolding numbers
 numbers_none most [] = refl
 numbers_none most (f ∷ fs) = numbers_none most fs
 
-pub args_loop_start : {most : ℕ} {s : Bytes} {e : ℕ} → e ≤ length s → ArgsLoop most s e Zero e
-args_loop_start h = record { within = h; same = refl }
+pub args_loop_start : {most : ℕ} {fs : List Bytes} → ArgsLoop most fs Zero 0
+args_loop_start = record { same = refl }
 
-module _ {most : ℕ} {s : Bytes} {e0 e : ℕ} {args : Args} (g : ArgsLoop most s e0 args e) where
-  module _ {e' : ℕ} (h : e < length s) (r : Ends tab s (e + 1) e') where
-    one_more : numbers most (push_number (Some args) (number_of most (part s (e + 1) e'))) (fields_after s e')
-        ≡ numbers most (Some Zero) (fields_after s e0)
-    unfolding numbers
-    one_more = rw (rest_first h r) at g.same
+pub no_fields : (most : ℕ) (s : Bytes) (e : ℕ) → length s ≤ e
+    → Some Zero ≡ numbers most (Some Zero) (fields_after s e)
+unfolding numbers
+no_fields most s e h = rw (rest_none s e h)
 
-    pub args_loop_next : {v : ℕ} {args' : Args} → Some v ≡ number_of most (part s (e + 1) e')
-        → Some args' ≡ push args v
-        → ArgsLoop most s e0 args' e'
-    args_loop_next p q = record { within = r.within; same = rw (← p, ← q) at one_more }
-
-    -- a malformed number, or a fifth
-    pub args_loop_malformed : None ≡ number_of most (part s (e + 1) e')
-        → None ≡ numbers most (Some Zero) (fields_after s e0)
-    args_loop_malformed p = sym (numbers_none most (fields_after s e')) ∙ rw (← p) at one_more
-
-    pub args_loop_fifth : {v : ℕ} → Some v ≡ number_of most (part s (e + 1) e') → None ≡ push args v
-        → None ≡ numbers most (Some Zero) (fields_after s e0)
-    args_loop_fifth p q = sym (numbers_none most (fields_after s e')) ∙ rw (← p, ← q) at one_more
-
-  pub args_loop_end : length s ≤ e → Some args ≡ numbers most (Some Zero) (fields_after s e0)
+-- the field is the next of them
+module _ {most : ℕ} {fs : List Bytes} {args : Args} {n : ℕ} (g : ArgsLoop most fs args n) {f : Bytes}
+    (t : (n < length fs) × (f ≡ get_or fs n f)) where
+  one_more : numbers most (push_number (Some args) (number_of most f)) (drop (n + 1) fs)
+      ≡ numbers most (Some Zero) fs
   unfolding numbers
-  args_loop_end h = rw (rest_none s e h) at g.same
+  one_more = rw (drop-cons fs n f t.0, ← t.1, ← add-one n) at g.same
+
+  pub args_loop_next : {v : ℕ} {args' : Args} → Some v ≡ number_of most f → Some args' ≡ push args v
+      → ArgsLoop most fs args' (n + 1)
+  args_loop_next p q = record { same = rw (← p, ← q) at one_more }
+
+  -- a malformed number, or a fifth
+  pub args_loop_malformed : None ≡ number_of most f → None ≡ numbers most (Some Zero) fs
+  args_loop_malformed p = sym (numbers_none most (drop (n + 1) fs)) ∙ rw (← p) at one_more
+
+  pub args_loop_fifth : {v : ℕ} → Some v ≡ number_of most f → None ≡ push args v → None ≡ numbers most (Some Zero) fs
+  args_loop_fifth p q = sym (numbers_none most (drop (n + 1) fs)) ∙ rw (← p, ← q) at one_more
+
+pub args_loop_end : {most : ℕ} {fs : List Bytes} {args : Args} {n : ℕ} → ArgsLoop most fs args n → n ≡ length fs
+    → Some args ≡ numbers most (Some Zero) fs
+unfolding numbers
+args_loop_end {fs = fs} {n = n} g e = rw (drop_of_length-le fs {i = n} (omega (arith, e))) at g.same
 
 -- what holds whatever the count of numbers
 pub by_count_lem : {A : Type 0} (P : A → Type 0) (z : A) (o : ℕ → A) (t : ℕ → ℕ → A) (h : ℕ → ℕ → ℕ → A)

@@ -2,8 +2,15 @@
 use Rattle.std.specs.Prelude.{◌≡◌, refl, List, ◌∷◌, [], ◌++◌, Bool, true, false, cond, ℕ, ◌+◌, ◌-◌, ◌≤◌, zero, suc, ◌<◌}
 use Rattle.std.specs.Prelude.{drop, take, get_or, length, eqb, ltb, Option, Some, None}
 use Rattle.std.proofs.lemmas.List.Recursion.{is_position_or_len}
-use Rattle.std.specs.List.{position_or_len}
+use Rattle.std.specs.List.{position_or_len, slice_split, onto_first}
 use Rattle.std.specs.Option.{unwrap_or}
+use Rattle.std.specs.Fn.{CalledAt}
+use Rattle.std.specs.Slice.Iter.{split_rest, split_done, split_callee, split_steps}
+use Rattle.std.proofs.lemmas.Iterator.{YieldsList}
+use Rattle.std.proofs.lemmas.Iterator.Consumers.{YieldsList-at}
+use Rattle.std.proofs.lemmas.Iterator.Splits.{YieldsList-from_slice_split}
+use denote.Param.Members.{Mut}
+use denote.Ref.{Bor}
 use Rattle.std.proofs.Common.{ap, sym, ◌∙◌, arith, add-one, drop_of_length-le, length-drop, drop-drop, drop-cons}
 use Rattle.std.proofs.Common.{take_all}
 use borrow.Author.Tests.{lt-ltb, le-ltb}
@@ -151,9 +158,34 @@ pub rest_none : (s : Bytes) (e : ℕ) → length s ≤ e → fields_after s e �
 unfolding fields_after after_tab
 rest_none s e h = rw (drop_of_length-le s h)
 
-rest_more : (s : Bytes) (e : ℕ) → e < length s → fields_after s e ≡ fields (drop (e + 1) s)
+onto_same : (x : ℕ) (ps : List Bytes) → onto x ps ≡ onto_first x ps
+unfolding onto
+onto_same x [] = refl
+onto_same x (p ∷ ps) = refl
+
+-- the parts that std's `split` gives are the fields
+pub fields_split : (s : Bytes) → fields s ≡ slice_split (λ x. eqb x tab) s
+unfolding fields parts
+fields_split [] = refl
+fields_split (x ∷ s) = rw (← fields_split s, ← onto_same x (fields s))
+
+pub rest_more : (s : Bytes) (e : ℕ) → e < length s → fields_after s e ≡ fields (drop (e + 1) s)
 unfolding fields_after after_tab
 rest_more s e h = rw (add-one e, drop-cons s e 0 h)
+
+-- what std's `split` at tabs yields of the bytes after the field that ends at e
+pub fields_yielded : {F : Type 0} {s t : _} (g : Mut F (Bor ℕ × Unit {0}) Bool) {f : F} (l : Bytes) (e : ℕ)
+    → e < length l
+    → t ≡ s
+    → split_rest s ≡ take (length l - (e + 1)) (drop (e + 1) l)
+    → split_done s ≡ false
+    → split_callee s ≡ f
+    → ((x : ℕ) (b : Bool) (q : F) → CalledAt g f x b q → (q ≡ f) × (b ≡ eqb x tab))
+    → YieldsList (split_steps g) (λ x. x.now) t (fields_after l e)
+fields_yielded g l e h q r d k o =
+    let whole = take_all (length l - (e + 1)) (drop (e + 1) l) (omega (arith, length-drop (e + 1) l)) in
+    rw (rest_more l e h, fields_split (drop (e + 1) l))
+    (YieldsList-at q (YieldsList-from_slice_split g (λ x. eqb x tab) (drop (e + 1) l) (r ∙ whole) d k o))
 
 -- The fields from a on are the one that begins there and those after it.
 pub fields_first : {s : Bytes} {a e : ℕ} → a ≤ length s → Ends tab s a e

@@ -4,7 +4,7 @@ ghost use Rattle.text.specs.Limits.{most_digits};
 ghost use Rattle.text.specs.Split.{fields_after};
 ghost use Rattle.text.specs.Args.{push, numbers};
 
-use crate::{number, split};
+use crate::number;
 
 // At most four numbers. Each count is a case of its own, so that a call says how many it has in its pattern; a buffer
 // with a length would need a slice pattern for that.
@@ -39,12 +39,11 @@ pub(crate) fn after(line: &[u8], e: usize, most: usize) -> Option<Args>
     ensures { result ≡ numbers most (Some Args.Zero) (fields_after line.now e) }
 {
     let mut args = Args::Zero;
-    let mut at = e;
-    // The place goes from field to field, past bytes that `split::end` has passed.
-    while at < line.len() {
-        let a = at + 1;
-        at = split::end(line, a, b'\t');
-        args = args.push(number::read(&line[a..at], most)?)?;
+    if e == line.len() {
+        return Some(args);
+    }
+    for field in line[e + 1..].split(|&x| x == b'\t') {
+        args = args.push(number::read(field, most)?)?;
     }
     Some(args)
 }
