@@ -1,5 +1,6 @@
 -- Laws of Args: the numbers, from the left.
-use Rattle.std.specs.Prelude.{refl, ◌≡◌, ℕ, ◌≤◌, ◌+◌, ◌<◌, length, drop, get_or, List, [], ◌∷◌, Option, Some, None, Result, Ok, Err}
+use Rattle.std.specs.Prelude.{refl, ◌≡◌, ℕ, ◌≤◌, ◌+◌, ◌<◌, length, drop, get_or, List, [], ◌∷◌, Option, Some, None}
+use Rattle.std.specs.Prelude.{Result, Ok, Err}
 use Rattle.std.specs.Option.{ok_or}
 use Rattle.std.proofs.Common.{sym, ◌∙◌, arith, add-one, drop-cons, drop_of_length-le}
 use Rattle.text.specs.Text.{Bytes, known}

@@ -258,7 +258,7 @@ unfolding call_fields
 call_cut [] = refl
 call_cut (f ∷ fs) =
     let args =
-            numbers_cut (says_call (word_of f)) 5 (omega arith) (call_wrong (word_of f)) 5 (Some Zero) fs (omega arith) in
+    numbers_cut (says_call (word_of f)) 5 (omega arith) (call_wrong (word_of f)) 5 (Some Zero) fs (omega arith) in
     rw (known_cut f (bytes "gate") refl, gate_cut fs, word_cut f, args)
 
 pub read_line_squeezed : (s : Bytes) → read_line (squeezed s) ≡ read_line s

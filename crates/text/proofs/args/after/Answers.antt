@@ -21,45 +21,45 @@ loop-field-init c = args_loop_start
 pub returns-in_err-read : goal.returns-in_err-read
 returns-in_err-read c =
     let next = λ (e : YieldsList _ (λ (x : Bor (List ℕ)). x.now) c.into_iter-field-iterator.result
-            (fields_after c.args.line.now c.args.e)).
-            YieldsList-turn e c.loop-field.yielded _ c.loop-field.yielded_by _ _ c.in-Some.field c.in-Some.is
-            c.next.ensures.steps in
+    (fields_after c.args.line.now c.args.e)).
+    YieldsList-turn e c.loop-field.yielded _ c.loop-field.yielded_by _ _ c.in-Some.field c.in-Some.is
+    c.next.ensures.steps in
     let t = next (fields_yielded _ _ _ (omega (arith, c.requires.0, c.if-e-line.false))
-            c.into_iter-field-iterator.ensures.into_iter_gives c.split-field-items.ensures.rest
-            c.split-field-items.ensures.done c.split-field-items.ensures.closure (λ x r q h. search rules)) in
+    c.into_iter-field-iterator.ensures.into_iter_gives c.split-field-items.ensures.rest
+    c.split-field-items.ensures.done c.split-field-items.ensures.closure (λ x r q h. search rules)) in
     c.from_residual.ensures ∙ args_loop_malformed c.loop-field.invariant t c.in_err-read.ensures
 
 pub returns-in_err-args : goal.returns-in_err-args
 returns-in_err-args c =
     let next = λ (e : YieldsList _ (λ (x : Bor (List ℕ)). x.now) c.into_iter-field-iterator.result
-            (fields_after c.args.line.now c.args.e)).
-            YieldsList-turn e c.loop-field.yielded _ c.loop-field.yielded_by _ _ c.in-Some.field c.in-Some.is
-            c.next.ensures.steps in
+    (fields_after c.args.line.now c.args.e)).
+    YieldsList-turn e c.loop-field.yielded _ c.loop-field.yielded_by _ _ c.in-Some.field c.in-Some.is
+    c.next.ensures.steps in
     let t = next (fields_yielded _ _ _ (omega (arith, c.requires.0, c.if-e-line.false))
-            c.into_iter-field-iterator.ensures.into_iter_gives c.split-field-items.ensures.rest
-            c.split-field-items.ensures.done c.split-field-items.ensures.closure (λ x r q h. search rules)) in
+    c.into_iter-field-iterator.ensures.into_iter_gives c.split-field-items.ensures.rest
+    c.split-field-items.ensures.done c.split-field-items.ensures.closure (λ x r q h. search rules)) in
     c.from_residual-in_err-args.ensures
     ∙ args_loop_fifth c.loop-field.invariant t c.in_ok-read.ensures c.in_err-args.ensures
 
 pub loop-field-preserved : goal.loop-field-preserved
 loop-field-preserved c =
     let next = λ (e : YieldsList _ (λ (x : Bor (List ℕ)). x.now) c.into_iter-field-iterator.result
-            (fields_after c.args.line.now c.args.e)).
-            YieldsList-turn e c.loop-field.yielded _ c.loop-field.yielded_by _ _ c.in-Some.field c.in-Some.is
-            c.next.ensures.steps in
+    (fields_after c.args.line.now c.args.e)).
+    YieldsList-turn e c.loop-field.yielded _ c.loop-field.yielded_by _ _ c.in-Some.field c.in-Some.is
+    c.next.ensures.steps in
     let t = next (fields_yielded _ _ _ (omega (arith, c.requires.0, c.if-e-line.false))
-            c.into_iter-field-iterator.ensures.into_iter_gives c.split-field-items.ensures.rest
-            c.split-field-items.ensures.done c.split-field-items.ensures.closure (λ x r q h. search rules)) in
+    c.into_iter-field-iterator.ensures.into_iter_gives c.split-field-items.ensures.rest
+    c.split-field-items.ensures.done c.split-field-items.ensures.closure (λ x r q h. search rules)) in
     rw (length_push c.loop-field.yielded c.in-Some.field)
     (args_loop_next c.loop-field.invariant t c.in_ok-read.ensures c.in_ok-args.ensures)
 
 pub returns : goal.returns
 returns c =
     let ends = λ (e : YieldsList _ (λ (x : Bor (List ℕ)). x.now) c.into_iter-field-iterator.result
-            (fields_after c.args.line.now c.args.e)).
-            YieldsList-end e c.loop-field.yielded _ c.loop-field.yielded_by _ _ c.in-None.is
-            c.next.ensures.steps in
+    (fields_after c.args.line.now c.args.e)).
+    YieldsList-end e c.loop-field.yielded _ c.loop-field.yielded_by _ _ c.in-None.is
+    c.next.ensures.steps in
     let t = ends (fields_yielded _ _ _ (omega (arith, c.requires.0, c.if-e-line.false))
-            c.into_iter-field-iterator.ensures.into_iter_gives c.split-field-items.ensures.rest
-            c.split-field-items.ensures.done c.split-field-items.ensures.closure (λ x r q h. search rules)) in
+    c.into_iter-field-iterator.ensures.into_iter_gives c.split-field-items.ensures.rest
+    c.split-field-items.ensures.done c.split-field-items.ensures.closure (λ x r q h. search rules)) in
     args_loop_end c.loop-field.invariant t.1
