@@ -9,7 +9,7 @@ use crate::limits::{Mask, Weight};
 use crate::print;
 use diagram::node::NodeCount;
 
-// What a line is answered. In document 01 a refusal is one of the answers, so it stands among them and not in a `Result`.
+// What a line is answered. In document 01 a refusal is one of the answers, so it stands among them, not in a `Result`.
 #[derive(Clone, Copy)]
 pub enum Answer {
     Ok(NodeCount),

@@ -83,8 +83,8 @@ fn check_lowered(m: Mask) -> Result<(), Refusal>
     check_range(m, 0, LAST_MASK)
 }
 
-// Each word has its function, with a line for each field's check. `drop` and `on` differ in the call alone, but a generic
-// one would take a closure for two lines.
+// Each word has its function, with a line for each field's check. `drop` and `on` differ in the call alone, but a
+// generic one would take a closure for two lines.
 fn put(d: RegisterNumber, w: Weight) -> Result<Call, Refusal>
     ensures { result ≡ call_of Word.Put (Args.Two d w) }
 {
