@@ -1,7 +1,6 @@
 // One text, and its verdict.
 use std::io::{Print, Stdout};
 use text::limits::VERDICT_ROOM;
-use text::number::Number;
 use text::{judge, number, split};
 
 // What cannot be written is left out.
@@ -36,7 +35,7 @@ pub fn run(stdout: Stdout, text: &[u8], store: &mut [u8], cache: &mut [u64]) {
         return;
     }
     match number::read(&text[a..e], 8) {
-        Number::Of(capacity) => lend(stdout, &text[e + 1..], store, cache, capacity),
-        Number::Malformed => word(stdout, b"bad capacity\n"),
+        Some(capacity) => lend(stdout, &text[e + 1..], store, cache, capacity),
+        None => word(stdout, b"bad capacity\n"),
     }
 }

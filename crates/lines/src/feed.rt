@@ -5,7 +5,6 @@ ghost use Rattle.text.specs.Limits.{line_room};
 
 use crate::show;
 use std::io::Stdout;
-use text::squeeze;
 use text::squeeze::Squeeze;
 
 fn end(stdout: Stdout, line: &[u8], squeeze: Squeeze)
@@ -22,9 +21,9 @@ fn step(stdout: Stdout, line: &mut [u8], squeeze: Squeeze, b: u8) -> Squeeze
 {
     if b == b'\n' {
         end(stdout, line, squeeze);
-        return squeeze::none();
+        return Squeeze::none();
     }
-    squeeze::push(line, squeeze, b)
+    squeeze.push(line, b)
 }
 
 // The bytes that come next.

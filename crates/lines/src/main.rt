@@ -10,7 +10,6 @@ ghost use Rattle.text.specs.Limits.{line_room};
 
 use std::io::{Read, Stdin, Stdout};
 use text::limits::LINE_ROOM;
-use text::squeeze;
 use text::squeeze::Squeeze;
 
 // How many bytes are read at once.
@@ -47,7 +46,7 @@ fn main(rt: HostRuntime) {
     let stdout = rt.stdout();
     let mut line = [0u8; LINE_ROOM];
     let mut part = [0u8; PART];
-    let squeeze = squeeze::none();
+    let squeeze = Squeeze::none();
     let mut after = AfterRead {
         squeeze,
         more: true,

@@ -64,11 +64,13 @@ fn call(stdout: Stdout, c: Call) {
         Call::Cmp(a, b) => two(stdout, b"cmp", a, b),
         Call::On(a) => one(stdout, b"on", a),
         Call::Lows(d, a, m) => three(stdout, b"lows", d, a, m),
-        Call::Refused(r) => one(stdout, b"no", text::answer::refusal_number(r)),
     }
 }
 
 pub fn line(stdout: Stdout, s: &[u8]) {
-    call(stdout, text::line::read(s));
+    match text::line::read(s) {
+        Ok(c) => call(stdout, c),
+        Err(r) => one(stdout, b"no", r.number()),
+    }
     word(stdout, b"\n");
 }

@@ -52,12 +52,12 @@ all_touching d (c ∷ cs) = touching d c && all_touching d cs
 with_three : AllHold 3 table × (all_touching 3 table ≡ true)
 unfolding touching all_touching growSession.qubits_below growSession.touches growSession.all_touch
     growSession.lines_touch
-    growSession.reading_touches text.same_bytes text.onto text.parts text.lines text.fields number.is_digit
-    number.digits_from number.needless number.number_of names.choose_name names.one_qubit names.two_qubits words.word_of
-    args.numbers args.by_count call.check_register call.check_range call.check_apart call.call_of
+    growSession.reading_touches text.onto text.parts text.lines text.fields number.is_digit
+    number.digits_from number.needless number.number_of names.one_qubit names.two_qubits words.word_of
+    args.numbers args.by_count call.call_of
     textGate.gate_call_fields
     line.call_fields line.read_line print.digits print.decimal answer.line_of_fields answer.printed check.header_numbers
-    check.header_fields check.header_of check.ensured check.gate_item_of check.gate_item_fields check.item_of
+    check.header_fields check.header_of check.gate_item_of check.gate_item_fields check.item_of
     check.with_first
     check.with_second check.second_item check.second_list check.first_item check.first_list check.after_header
     check.read_lines

@@ -1,5 +1,4 @@
 // A session's first line.
-use text::number::Number;
 use text::{number, split};
 
 // The capacity in nodes and the length of the output in bytes.
@@ -15,10 +14,10 @@ pub fn read(line: &[u8]) -> Header {
     if e == line.len() {
         return Header::Bad;
     }
-    let Number::Of(capacity) = number::read(&line[a..e], 8) else {
+    let Some(capacity) = number::read(&line[a..e], 8) else {
         return Header::Bad;
     };
-    let Number::Of(room) = number::read(&line[e + 1..], 8) else {
+    let Some(room) = number::read(&line[e + 1..], 8) else {
         return Header::Bad;
     };
     Header::Of(capacity, room)

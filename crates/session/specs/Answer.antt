@@ -6,7 +6,7 @@ use Rattle.diagram.specs.Invariant.{Invariant}
 use Rattle.text.specs.Text.{Bytes, LF}
 use Rattle.text.specs.Line.{read_line}
 use Rattle.text.specs.Answer.{printed}
-use Rattle.text.specs.Session.{at_most, TallyReply, answer}
+use Rattle.text.specs.Session.{at_most, TallyReply, answer_read}
 use Rattle.text.specs.Squeeze.{SqueezeFits, SqueezeInvariant}
 use Rattle.text.specs.Engine.{tally_of}
 use Rattle.text.specs.declared.engine.Engine.{Engine}
@@ -36,7 +36,7 @@ pub data NoLf : Bytes → Type 0 where
 
 -- what the tally that the engine holds answers to a line, and the tally after it
 abbrev pub reply_to : Bytes → List ℕ → Engine → TallyReply indices
-reply_to seen s e = answer (at_most (capacity s)) (read_line seen) (tally_of s e)
+reply_to seen s e = answer_read (at_most (capacity s)) (read_line seen) (tally_of s e)
 
 -- Whatever line was squeezed into the buffer, the engine holds the tally after it.
 pub record AnswerEnsures (m : Memory) (q : Squeeze) (e : Engine) (m' : Memory) (r : Engine) : Type 0 where

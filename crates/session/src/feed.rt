@@ -8,7 +8,6 @@ use crate::answer;
 use crate::answer::LineResult;
 use std::io::Stdout;
 use text::engine::Engine;
-use text::squeeze;
 use text::squeeze::Squeeze;
 
 // The line that has come so far, the engine after the lines before it, and whether all their answers were written.
@@ -37,7 +36,7 @@ fn step(
     if written {
         if b == b'\n' {
             let result = answer::answer(stdout, line, store, cache, squeeze, engine);
-            let squeeze = squeeze::none();
+            let squeeze = Squeeze::none();
             let engine = result.engine;
             let written = result.written;
             return SessionState {
@@ -46,7 +45,7 @@ fn step(
                 written,
             };
         }
-        let squeeze = squeeze::push(line, squeeze, b);
+        let squeeze = squeeze.push(line, b);
         return SessionState {
             squeeze,
             engine,

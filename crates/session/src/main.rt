@@ -19,8 +19,9 @@ ghost use Rattle.session.specs.Session.{SessionEnsures};
 use feed::SessionState;
 use outcome::{Ending, Outcome};
 use std::io::{Print, Stderr, Stdin, Stdout};
+use text::engine;
 use text::limits::LINE_ROOM;
-use text::{engine, squeeze};
+use text::squeeze::Squeeze;
 
 // 2048 nodes of 16 bytes.
 const STORE: usize = 32768;
@@ -50,7 +51,7 @@ fn run(input: Stdin, stdout: Stdout, store: &mut [u8], cache: &mut [u64]) -> Out
 {
     let mut line = [0u8; LINE_ROOM];
     let engine = engine::start(store, cache);
-    let squeeze = squeeze::none();
+    let squeeze = Squeeze::none();
     let written = true;
     let start = SessionState {
         squeeze,

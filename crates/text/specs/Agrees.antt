@@ -15,7 +15,7 @@ use Rattle.text.specs.Limits.{register_count}
 use Rattle.text.specs.Line.{read_line}
 use Rattle.text.specs.Print.{written}
 use Rattle.text.specs.Answer.{is_no}
-use Rattle.text.specs.Session.{node_count, Tally, TallyRun, Capacity, answer, run}
+use Rattle.text.specs.Session.{node_count, Tally, TallyRun, Capacity, answer_read, run}
 use Rattle.text.specs.declared.progress.SessionResult.{SessionResult}
 
 -- the tensors of the nodes from 1 up, read off the store's bytes; node 0 is the constant 1 (tensor_at)
@@ -111,7 +111,7 @@ pub record OneLine (c : Capacity) (line : Bytes) (t : Tally indices) (s s' : Byt
   where
     pub lines : r'.lines ≡ suc r.lines
     pub long : length s' ≡ length s
-    pub refused : is_no (answer c (read_line line) t).0 ≡ true
+    pub refused : is_no (answer_read c (read_line line) t).0 ≡ true
         → Unchanged s s' r.count r'.count r.registers.all r'.registers.all
 
 -- "all of this holds at the start and after each line answered": a run of the lines ls, from the store s₀ and the

@@ -53,5 +53,5 @@ pub record AnswerWritten (l : Bytes) (at : ℕ) (a : Answer) (l' : Bytes) (r : �
   pub short : length (printed a) ≤ answer_room
 
 -- A word with its tab, and a number: a line.
-unfoldable pub labelled_line : Bytes → ℕ → Bytes
+abbrev pub labelled_line : Bytes → ℕ → Bytes
 labelled_line word n = word ++ decimal n ++ (LF ∷ [])

@@ -19,7 +19,6 @@ module _ (word : Bytes) (n : ℕ) (short : length word < 8) (small : n ≤ last_
   size = omega (arith, length-append word (decimal n), decimal_length n 8 (omega arith) (omega arith))
 
   pub labelled_short : length (labelled_line word n) ≤ answer_room
-  unfolding labelled_line
   labelled_short = omega (arith, length-append (word ++ decimal n) (LF ∷ []), size)
 
   pub labelled_label : (at m : ℕ) → at + answer_room ≤ m → at + length word + length (decimal n) ≤ m
@@ -34,7 +33,6 @@ module _ (word : Bytes) (n : ℕ) (short : length word < 8) (small : n ≤ last_
       l at (word ++ decimal n) l1 e
       → WriteEnsures l1 e (LF ∷ []) l2 r
       → WriteEnsures l at (labelled_line word n) l2 r
-  unfolding labelled_line
   labelled_wrote h w v = wrote_then w v (omega (arith, size))
 
 pub weight_small : {n : ℕ} → n ≤ last_weight → n ≤ last_mask
@@ -51,7 +49,7 @@ refusal_small refusal.Depends = omega arith
 refusal_small refusal.Full = omega arith
 
 pub printed_short : (a : Answer) → SmallAnswer a → length (printed a) ≤ answer_room
-unfolding printed line_of_fields labelled_line
+unfolding printed line_of_fields
 printed_short (Ok n) h = labelled_short (bytes "ok\t") n (omega arith) (weight_small h)
 printed_short (No r) h = labelled_short (bytes "no\t") (refusal_number r) (omega arith) (refusal_small r)
 printed_short (Value w) h = labelled_short (bytes "v\t") w (omega arith) (weight_small h)

@@ -27,8 +27,8 @@ use Rattle.text.specs.QubitsLaws.{middles_set, gate_rising}
 use Rattle.diagram.specs.declared.node.Edge.{Edge}
 use Rattle.diagram.specs.declared.make.State.{State}
 use Rattle.diagram.specs.declared.diagram.Full.{Full}
-use Rattle.text.specs.declared.qubits.Qubits.{Qubits}
-use Rattle.text.specs.declared.qubits.Qubits.TheVariants.{One, Two}
+use Rattle.diagram.specs.declared.gate.Shape.{Shape}
+use Rattle.diagram.specs.declared.gate.Shape.TheVariants.{One, Two}
 use Rattle.diagram.specs.declared.gate.Gate.{Gate}
 
 -- contraction over k leaves nothing that depends on k; renaming another index keeps independence
@@ -116,10 +116,10 @@ rename_allowed {q = q} p f =
 
 -- one qubit's
 
-pub free_one : {q : ℕ} {x : Qubits} {T : Tensor indices} → x ≡ One q → Renamable (qubit_list x) T → Free (3 * q + 1) T
+pub free_one : {q : ℕ} {x : Shape} {T : Tensor indices} → x ≡ One q → Renamable (qubit_list x) T → Free (3 * q + 1) T
 free_one {T = T} e h = (subst (λ x. Renamable (qubit_list x) T) e h).free.0
 
-pub renamed_one : (c' s s' : List ℕ) (st t : State) (T : Tensor indices) {q : ℕ} {x : Qubits} (r : Result Edge Full)
+pub renamed_one : (c' s s' : List ℕ) (st t : State) (T : Tensor indices) {q : ℕ} {x : Shape} (r : Result Edge Full)
     → x ≡ One q
     → RefinesCached c' s s' st t (low (3 * q + 2) T) r
     → RefinesCached c' s s' st t (rename_step (qubit_list x) T) r
@@ -129,7 +129,7 @@ renamed_one c' s s' st t T {q} r e w =
 
 -- two qubits'
 
-module _ {p q : ℕ} {x : Qubits} {T : Tensor indices} (e : x ≡ Two p q) (h : Renamable (qubit_list x) T) where
+module _ {p q : ℕ} {x : Shape} {T : Tensor indices} (e : x ≡ Two p q) (h : Renamable (qubit_list x) T) where
   two : Renamable (p ∷ q ∷ []) T
   two = subst (λ x. Renamable (qubit_list x) T) e h
 
@@ -166,7 +166,7 @@ module _ {p q : ℕ} {x : Qubits} {T : Tensor indices} (e : x ≡ Two p q) (h : 
 
 -- the contraction, and then the fresh indices
 
-module _ {m : ℕ} (x : Qubits) (k : m ≡ middles (qubit_list x)) (u : Rising indices 0 (qubit_list x))
+module _ {m : ℕ} (x : Shape) (k : m ≡ middles (qubit_list x)) (u : Rising indices 0 (qubit_list x))
     (A T : Tensor indices) where
   over : bits m ≡ bits (middles (qubit_list x))
   over = ap bits k
@@ -201,11 +201,11 @@ module _ {m : ℕ} (x : Qubits) (k : m ≡ middles (qubit_list x)) (u : Rising i
 
 -- the gate's tensor, and then the others
 
-pub apply_rising : (g : Gate) (qs : Qubits) → Placed most_qubits g → QubitsOf g qs → Rising indices 0 (qubit_list qs)
+pub apply_rising : (g : Gate) (qs : Shape) → Placed most_qubits g → QubitsOf g qs → Rising indices 0 (qubit_list qs)
 apply_rising g qs p o = rw o.is (gate_rising indices most_qubits g (omega (arith, indices_count)) p)
 
 module _ {c c₁ s : List ℕ} {st : State} {x : Edge} (h : OperationRequires c s st x x) {g : Gate}
-    (p : Placed most_qubits g) (k : c₁ ≡ c) {qs : Qubits} (o : QubitsOf g qs) where
+    (p : Placed most_qubits g) (k : c₁ ≡ c) {qs : Shape} (o : QubitsOf g qs) where
   pub apply_full : {s₁ : List ℕ} {t : State} {f : Full} → Refines s s₁ st t (build (gate_tensor indices g)) (Err f)
       → RefinesCached c₁ s s₁ st t (apply_step g (tensor_of s st x)) (Err f)
   unfolding apply_step ◌>>=◌

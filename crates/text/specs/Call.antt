@@ -1,6 +1,7 @@
 -- Session calls (document 01, "Session calls"; document 02, `on` and `lows`): a word and its numbers, with the checks
 -- that need the line alone.
-use Rattle.std.specs.Prelude.{◌≡◌, false, cond, ◌&&◌, ℕ, ◌≤◌, ◌<◌, leb, eqb}
+use Rattle.std.specs.Prelude.{◌≡◌, false, cond, ◌&&◌, ℕ, ◌≤◌, ◌<◌, leb, eqb, Result, Ok, Err}
+use Rattle.std.specs.Prelude.{IfOk}
 use Rattle.diagram.specs.Weights.{modulus}
 use Rattle.diagram.specs.Tensor.{bits, masks}
 use Rattle.text.specs.Limits.{last_register, last_index, last_mask, last_weight, most_qubits, register_count}
@@ -13,7 +14,7 @@ use Rattle.text.specs.declared.call.Call.{Call}
 use Rattle.text.specs.declared.args.Args.{Args}
 use Rattle.text.specs.declared.words.Word.{Word}
 use Rattle.text.specs.declared.words.Word.TheVariants.{Put, Unit as UnitWord, Add, Cont, Low, Drop, Collect, At}
-use Rattle.text.specs.declared.words.Word.TheVariants.{Cmp, On, Lows, Unknown}
+use Rattle.text.specs.declared.words.Word.TheVariants.{Cmp, On, Lows}
 use Rattle.text.specs.declared.call.Call.TheVariants as call
 
 -- "1 (unknown word, wrong count of fields, malformed number); .. 2 register above 15, 4 out of range, 5 gate name",
@@ -28,55 +29,58 @@ refusal_number Equal = 6
 refusal_number Depends = 7
 refusal_number Full = 8
 
-abbrev pub malformed : Call
-malformed = call.Refused Malformed
+abbrev pub malformed : {A : Type 0} → Result A Refusal
+malformed = Err Malformed
 
 -- "2 register above 15"
-unfoldable pub check_register : ℕ → Call → Call
-check_register d next = cond (leb d last_register) next (call.Refused Register)
+abbrev pub check_register : {A : Type 0} → ℕ → Result A Refusal → Result A Refusal
+check_register d next = cond (leb d last_register) next (Err Register)
 
 -- "4 out of range"
-unfoldable pub check_range : ℕ → ℕ → ℕ → Call → Call
-check_range x least most next = cond (leb least x && leb x most) next (call.Refused Range)
+abbrev pub check_range : {A : Type 0} → ℕ → ℕ → ℕ → Result A Refusal → Result A Refusal
+check_range x least most next = cond (leb least x && leb x most) next (Err Range)
 
 -- "Mask bit 0 set, or a mask above 16777215, is 4."
-unfoldable pub check_lowered : ℕ → Call → Call
-check_lowered m next = cond (bits m 0) (call.Refused Range) (check_range m 0 last_mask next)
+abbrev pub check_lowered : {A : Type 0} → ℕ → Result A Refusal → Result A Refusal
+check_lowered m next = cond (bits m 0) (Err Range) (check_range m 0 last_mask next)
 
 -- "6 (both qubits equal)"
-unfoldable pub check_apart : ℕ → ℕ → Call → Call
-check_apart p q next = cond (eqb p q) (call.Refused Equal) next
+abbrev pub check_apart : {A : Type 0} → ℕ → ℕ → Result A Refusal → Result A Refusal
+check_apart p q next = cond (eqb p q) (Err Equal) next
 
 -- "Line checks come in this order: 1 (..); then each field from the left (2 register above 15, 4 out of range, 5 gate
 -- name); 6; .."
-unfoldable pub call_of : Word → Args → Call
+unfoldable pub call_of : Word → Args → Result Call Refusal
 -- "`put d w`: constant w, 0 to 65536."
-call_of Put = two_numbers malformed (λ d w. check_register d (check_range w 0 last_weight (call.Put d w)))
+call_of Put = two_numbers malformed (λ d w. check_register d (check_range w 0 last_weight (Ok (call.Put d w))))
 -- "`unit d n`: n 1 to 8"
-call_of UnitWord = two_numbers malformed (λ d n. check_register d (check_range n 1 most_qubits (call.Unit d n)))
+call_of UnitWord = two_numbers malformed (λ d n. check_register d (check_range n 1 most_qubits (Ok (call.Unit d n))))
 -- "`add d a b`: sum."
-call_of Add = three_numbers malformed (λ d a b. check_register d (check_register a (check_register b (call.Add d a b))))
+call_of Add =
+    three_numbers malformed
+    (λ d a b. check_register d (check_register a (check_register b (Ok (call.Add d a b)))))
 -- "`cont d a b m`: bits of m, at most 16777215, are S."
 call_of Cont =
     four_numbers malformed
-    (λ d a b m. check_register d (check_register a (check_register b (check_range m 0 last_mask (call.Cont d a b m)))))
+    (λ d a b m. check_register d (check_register a (check_register b
+    (check_range m 0 last_mask (Ok (call.Cont d a b m))))))
 -- "`low d a k`: k 1 to 23."
 call_of Low =
-    three_numbers malformed (λ d a k. check_register d (check_register a (check_range k 1 last_index (call.Low d a k))))
+    three_numbers malformed
+    (λ d a k. check_register d (check_register a (check_range k 1 last_index (Ok (call.Low d a k)))))
 -- "`drop a`: empties a."
-call_of Drop = one_number malformed (λ a. check_register a (call.Drop a))
+call_of Drop = one_number malformed (λ a. check_register a (Ok (call.Drop a)))
 -- "`collect`: refuses 1."
-call_of Collect = no_numbers malformed call.Collect
+call_of Collect = no_numbers malformed (Ok call.Collect)
 -- "`at a v`: answers `v` and the value at assignment v, at most 16777215."
-call_of At = two_numbers malformed (λ a v. check_register a (check_range v 0 last_mask (call.At a v)))
+call_of At = two_numbers malformed (λ a v. check_register a (check_range v 0 last_mask (Ok (call.At a v))))
 -- "`cmp a b`"
-call_of Cmp = two_numbers malformed (λ a b. check_register a (check_register b (call.Cmp a b)))
+call_of Cmp = two_numbers malformed (λ a b. check_register a (check_register b (Ok (call.Cmp a b))))
 -- "`on a` .. it refuses 1, 2 and 3 like `drop`."
-call_of On = one_number malformed (λ a. check_register a (call.On a))
+call_of On = one_number malformed (λ a. check_register a (Ok (call.On a)))
 -- "The call `lows d a m` .. 1, 2, 3 and 8 are as for `low`."
 call_of Lows =
-    three_numbers malformed (λ d a m. check_register d (check_register a (check_lowered m (call.Lows d a m))))
-call_of Unknown = λ args. malformed
+    three_numbers malformed (λ d a m. check_register d (check_register a (check_lowered m (Ok (call.Lows d a m)))))
 
 -- What a call carries is in range.
 abbrev pub InRange : Call → Type 0
@@ -92,4 +96,7 @@ InRange (call.At a v) = (a < register_count) × (v < masks)
 InRange (call.Cmp a b) = (a < register_count) × (b < register_count)
 InRange (call.On a) = a < register_count
 InRange (call.Lows d a m) = (d < register_count) × ((a < register_count) × ((bits m 0 ≡ false) × (m < masks)))
-InRange (call.Refused r) = Unit
+
+-- What a line's call carries is in range, if the line is a call.
+abbrev pub Ranged : Result Call Refusal → Type 0
+Ranged r = IfOk r InRange

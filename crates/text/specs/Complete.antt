@@ -25,7 +25,6 @@ LowBelow d (call.At a v) = Unit {0}
 LowBelow d (call.Cmp a b) = Unit {0}
 LowBelow d (call.On a) = Unit {0}
 LowBelow d (call.Lows r a m) = Unit {0}
-LowBelow d (call.Refused r) = Unit {0}
 
 -- every filled register's cofactors are in the set
 abbrev pub AllCovered : {d : ℕ} → Set d → List (Option (Tensor d)) → Type 0

@@ -1,5 +1,6 @@
 -- The tally of a session stays complete.
 use mathlib.Core.List.{List, [], ◌∷◌}
+use Rattle.std.specs.Prelude.{Result, Ok as Read, Err as Refused}
 use Rattle.std.proofs.Math.Option.{Option, none, some}
 use Rattle.std.specs.Prelude.{◌≡◌, refl, Bool, ◌||◌, cond, ℕ, ◌-◌, zero, suc, ◌+◌, get_or, length, leb}
 use Rattle.std.proofs.Common.{subst, sym, true≢false, arith}
@@ -24,14 +25,16 @@ use Rattle.diagram.specs.TallyLowsLaws.{lows_set_after}
 use Rattle.diagram.specs.Gate.{gate_tensor, unit_tensor}
 use Rattle.text.specs.Text.{Bytes}
 use Rattle.text.specs.Limits.{answer_room}
-use Rattle.text.specs.Call.{InRange}
+use Rattle.text.specs.Call.{InRange, Ranged}
 use Rattle.text.specs.Line.{read_line}
-use Rattle.text.specs.Session.{Capacity, fits, Tally, TallyReply, answer, accept, refuse, settle, with_tensor}
+use Rattle.text.specs.Session.{Capacity, fits, Tally, TallyReply, answer, answer_read, accept, refuse, settle}
+use Rattle.text.specs.Session.{with_tensor}
 use Rattle.text.specs.Session.{with_register, empty_tally, TallyRun, empty_run, with_answer, stopped_run, run}
 use Rattle.text.specs.Complete.{AllCovered, LowBelow, Complete}
 use Rattle.text.specs.LineLaws.{line_ranged}
 use Rattle.text.specs.declared.call.Refusal.TheVariants.{Full, Depends}
 use Rattle.text.specs.declared.call.Call.{Call}
+use Rattle.text.specs.declared.call.Refusal.{Refusal}
 use Rattle.text.specs.declared.call.Call.TheVariants as call
 
 covered_grown : {d : ℕ} {s u : Set d} (l : List (Option (Tensor d))) → PrefixOf s u → AllCovered s l → AllCovered u l
@@ -163,7 +166,6 @@ module _ {d : ℕ} (c : Capacity) (t : Tally d) (k : Complete t) where
   answer_complete (call.Lows r a m) i =
       register_complete a _ (λ A p. unless_complete (clash (bits m) A) r (lows (bits m) A)
       (λ e. lows_set_after t.nodes (bits m) A))
-  answer_complete (call.Refused r) i = k
 
   -- "the set keeps exactly the normal multiples of the nonconstant tensors got from filled registers": a filter loses
   -- nothing that document 01 keeps
@@ -192,22 +194,26 @@ ranged_low_below (call.At a v) h = tt
 ranged_low_below (call.Cmp a b) h = tt
 ranged_low_below (call.On a) h = tt
 ranged_low_below (call.Lows r a m) h = tt
-ranged_low_below (call.Refused r) h = tt
 
 module _ (c : Capacity) (room : ℕ) where
-  line_complete : (l : Bytes) (t : Tally indices) → Complete t → Complete (answer c (read_line l) t).1
-  line_complete l t k =
-      answer_complete c t k (read_line l) (rw indices_count (ranged_low_below (read_line l) (line_ranged l)))
+  line_complete : (l : Bytes) (t : Tally indices) → Complete t → Complete (answer_read c (read_line l) t).1
+  unfolding refuse
+  line_complete l t k = go (read_line l) (line_ranged l)
+    where
+      go : (x : Result Call Refusal) → Ranged x → Complete (answer_read c x t).1
+      go (Read x) h = answer_complete c t k x (rw indices_count (ranged_low_below x h))
+      go (Refused r) h = k
 
   lines_complete : (ls : List Bytes) (r : TallyRun indices) → Complete r.tally → Complete (run c room ls r).tally
   unfolding run with_answer stopped_run
   lines_complete [] r k = k
   lines_complete (l ∷ ls) r k =
       go (leb (length r.output + answer_room) room)
-      (lines_complete ls (with_answer r (answer c (read_line l) r.tally)) (line_complete l r.tally k))
+      (lines_complete ls (with_answer r (answer_read c (read_line l) r.tally)) (line_complete l r.tally k))
     where
-      go : (b : Bool) → Complete (run c room ls (with_answer r (answer c (read_line l) r.tally))).tally
-          → Complete (cond b (run c room ls (with_answer r (answer c (read_line l) r.tally))) (stopped_run r)).tally
+      go : (b : Bool) → Complete (run c room ls (with_answer r (answer_read c (read_line l) r.tally))).tally
+          → Complete (cond b (run c room ls (with_answer r (answer_read c (read_line l) r.tally)))
+          (stopped_run r)).tally
       go true h = h
       go false h = k
 

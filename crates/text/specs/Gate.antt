@@ -1,39 +1,39 @@
 -- Gate calls (document 01, "Session calls").
-use Rattle.std.specs.Prelude.{List, [], ◌∷◌, ℕ}
-use Rattle.text.specs.Text.{Bytes}
+use Rattle.std.specs.Prelude.{List, [], ◌∷◌, ℕ, Option, Some, Result, Ok, Err}
+use Rattle.text.specs.Text.{Bytes, known}
 use Rattle.text.specs.Limits.{last_qubit, most_digits}
 use Rattle.text.specs.Number.{number_of}
 use Rattle.text.specs.Args.{one_or_two_numbers, numbers}
-use Rattle.text.specs.Names.{known, one_qubit, two_qubits}
+use Rattle.text.specs.Names.{one_qubit, two_qubits}
 use Rattle.text.specs.Call.{check_range, check_apart, malformed, check_register}
-use Rattle.text.specs.declared.names.NameResult.{NameResult}
+use Rattle.text.specs.declared.call.Refusal.{Refusal}
 use Rattle.text.specs.declared.call.Refusal.TheVariants.{Name}
 use Rattle.text.specs.declared.call.Call.{Call}
-use Rattle.text.specs.declared.number.Number.{Number}
 use Rattle.text.specs.declared.args.Args.{Args}
-use Rattle.text.specs.declared.args.Args.TheVariants.{None}
+use Rattle.diagram.specs.declared.gate.Gate.{Gate}
+use Rattle.text.specs.declared.args.Args.TheVariants.{Zero}
 use Rattle.text.specs.declared.call.Call.TheVariants as call
-use Rattle.text.specs.declared.number.Number.TheVariants as number
 
 -- "`gate d name q`, or with a second qubit: build of the gate. Refuses 1, 2, 5 (name not below, or wrong count of
 -- qubits for it), 4, 6 (both qubits equal), 8."
-abbrev pub one_qubit_call : ℕ → ℕ → NameResult → Call
-one_qubit_call d q name = known (call.Refused Name) name (λ g. check_range q 0 last_qubit (call.Gate d g))
+abbrev pub one_qubit_call : ℕ → ℕ → Option Gate → Result Call Refusal
+one_qubit_call d q name = known (Err Name) name (λ g. check_range q 0 last_qubit (Ok (call.Gate d g)))
 
-abbrev pub two_qubit_call : ℕ → ℕ → ℕ → NameResult → Call
+abbrev pub two_qubit_call : ℕ → ℕ → ℕ → Option Gate → Result Call Refusal
 two_qubit_call d p q name =
-    known (call.Refused Name) name
-    (λ g. check_range p 0 last_qubit (check_range q 0 last_qubit (check_apart p q (call.Gate d g))))
+    known (Err Name) name
+    (λ g. check_range p 0 last_qubit (check_range q 0 last_qubit (check_apart p q (Ok (call.Gate d g)))))
 
-abbrev pub gate_call_of : Number → Bytes → Args → Call
-gate_call_of number.Malformed name = λ qubits. malformed
-gate_call_of (number.Of d) name =
+abbrev pub gate_call_of : ℕ → Bytes → Args → Result Call Refusal
+gate_call_of d name =
     one_or_two_numbers malformed
     (λ q. check_register d (one_qubit_call d q (one_qubit name q)))
     (λ p q. check_register d (two_qubit_call d p q (two_qubits name p q)))
 
 -- "Fields here number 4 or 5."
-unfoldable pub gate_call_fields : List Bytes → Call
+unfoldable pub gate_call_fields : List Bytes → Result Call Refusal
 gate_call_fields [] = malformed
 gate_call_fields (d ∷ []) = malformed
-gate_call_fields (d ∷ name ∷ qubits) = gate_call_of (number_of most_digits d) name (numbers most_digits None qubits)
+gate_call_fields (d ∷ name ∷ qubits) =
+    known malformed (number_of most_digits d)
+    (λ r. known malformed (numbers most_digits (Some Zero) qubits) (gate_call_of r name))

@@ -1,6 +1,6 @@
 -- A session that touches only the lowest d indices does the same with more of them: constant levels below.
 -- So document 01's cases, computed with 3 indices, hold with 24.
-use Rattle.std.specs.Prelude.{Bool, true, ◌&&◌, List, [], ◌∷◌, ℕ, ◌+◌, ◌*◌, ◌^◌, leb, ltb}
+use Rattle.std.specs.Prelude.{Bool, true, ◌&&◌, List, [], ◌∷◌, ℕ, ◌+◌, ◌*◌, ◌^◌, leb, ltb, Result, Ok, Err}
 use Rattle.std.proofs.Math.Option.{Option, none, some}
 use Rattle.diagram.specs.Tensor.{Tensor}
 use Rattle.diagram.specs.Grow.{deeper, grow, grow_all}
@@ -10,6 +10,7 @@ use Rattle.text.specs.Check.{Reading, lists, fault}
 use Rattle.text.specs.Qubits.{qubits}
 use Rattle.text.specs.VerdictSession.{NumberedCall, session_calls, PerformResult, refused_at, ended_with}
 use Rattle.text.specs.declared.call.Call.{Call}
+use Rattle.text.specs.declared.call.Refusal.{Refusal}
 use Rattle.text.specs.declared.call.Call.TheVariants as call
 
 -- are all indices of these qubits below d?
@@ -31,7 +32,10 @@ touches d (call.At a v) = true
 touches d (call.Cmp a b) = true
 touches d (call.On a) = true
 touches d (call.Lows r a m) = ltb m (2 ^ d)
-touches d (call.Refused r) = true
+
+abbrev pub read_touches : ℕ → Result Call Refusal → Bool
+read_touches d (Ok x) = touches d x
+read_touches d (Err r) = true
 
 unfoldable pub all_touch : ℕ → List NumberedCall → Bool
 all_touch d [] = true
@@ -39,7 +43,7 @@ all_touch d ((line, x) ∷ xs) = touches d x && all_touch d xs
 
 unfoldable pub lines_touch : ℕ → List (List ℕ) → Bool
 lines_touch d [] = true
-lines_touch d (line ∷ ls) = touches d (read_line line) && lines_touch d ls
+lines_touch d (line ∷ ls) = read_touches d (read_line line) && lines_touch d ls
 
 -- verdicts
 unfoldable pub reading_touches : ℕ → Reading → Bool

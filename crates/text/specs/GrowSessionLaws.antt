@@ -1,5 +1,5 @@
 -- Laws of GrowSession: with more indices a session and a verdict are the same.
-use Rattle.std.specs.Prelude.{◌≡◌, false, true, Bool, cond, leb, length, get_or}
+use Rattle.std.specs.Prelude.{◌≡◌, false, true, Bool, cond, leb, length, get_or, Result, Ok, Err}
 use Rattle.std.proofs.Math.Path.{refl, ap}
 use Rattle.std.proofs.Common.{sym, ◌∙◌, arith, leb-true, ltb-true}
 use mathlib.Core.List.{List, [], ◌∷◌}
@@ -22,7 +22,8 @@ use Rattle.diagram.specs.CompareLaws.{grow_compared}
 use Rattle.text.specs.Text.{lines}
 use Rattle.text.specs.Limits.{answer_room}
 use Rattle.text.specs.Line.{read_line}
-use Rattle.text.specs.Session.{comparison, Capacity, fits, Tally, TallyReply, node_count, answer, accept, refuse}
+use Rattle.text.specs.Session.{comparison, Capacity, fits, Tally, TallyReply, node_count, answer, answer_read, accept}
+use Rattle.text.specs.Session.{refuse}
 use Rattle.text.specs.Session.{settle, with_tensor, with_register, TallyRun, with_answer, stopped_run, run}
 use Rattle.text.specs.Session.{empty_tally, empty_run, session}
 use Rattle.text.specs.Check.{Reading, lists, fault, read_text}
@@ -30,7 +31,8 @@ use Rattle.text.specs.Qubits.{qubits_on, qubits}
 use Rattle.text.specs.VerdictSession.{NumberedCall, PerformResult, continue_with, perform, refused_at, ended_with}
 use Rattle.text.specs.VerdictSession.{ruling_of_answer, ruling_at_end, session_calls, ruling_of_reading, ruling_on}
 use Rattle.text.specs.VerdictSession.{verdict_result}
-use Rattle.text.specs.GrowSession.{qubits_below, touches, all_touch, lines_touch, grow_register, grow_registers}
+use Rattle.text.specs.GrowSession.{qubits_below, touches, read_touches, all_touch, lines_touch, grow_register}
+use Rattle.text.specs.GrowSession.{grow_registers}
 use Rattle.text.specs.GrowSession.{grow_tally, grow_reply, grow_result, grow_run, reading_touches}
 use Rattle.diagram.specs.declared.gate.Gate.{Gate}
 use Rattle.diagram.specs.declared.gate.Shape.{Shape}
@@ -219,7 +221,11 @@ module _ {d : ℕ} (m : ℕ) where
   grow_answer c (call.Cmp a b) t e = grow_cmp c a b t
   grow_answer c (call.On a) t e = grow_on c a t
   grow_answer c (call.Lows r a x) t e = grow_lows c r a x t (λ j q. bits_above d x j (ltb-true x (2 ^ d) e) q)
-  grow_answer c (call.Refused r) t e = unfold answer in grow_refuse r t
+
+  grow_read : (c : Capacity) (x : Result Call Refusal) (t : Tally d) → read_touches d x ≡ true
+      → answer_read c x (grow_tally m t) ≡ grow_reply m (answer_read c x t)
+  grow_read c (Ok x) t e = grow_answer c x t e
+  grow_read c (Err r) t e = grow_refuse r t
 
   -- calls and lines, one after another
 
@@ -254,20 +260,21 @@ module _ {d : ℕ} (m : ℕ) where
   grow_cond true x y x' y' p q = p
   grow_cond false x y x' y' p q = q
 
-  grow_line : (c : Capacity) (x : Call) (r : TallyRun d) → touches d x ≡ true
-      → with_answer (grow_run m r) (answer c x (grow_run m r).tally) ≡ grow_run m (with_answer r (answer c x r.tally))
+  grow_line : (c : Capacity) (x : Result Call Refusal) (r : TallyRun d) → read_touches d x ≡ true
+      → with_answer (grow_run m r) (answer_read c x (grow_run m r).tally)
+      ≡ grow_run m (with_answer r (answer_read c x r.tally))
   unfolding grow_run with_answer
-  grow_line c x r e = rw (grow_answer c x r.tally e)
+  grow_line c x r e = rw (grow_read c x r.tally e)
 
   grow_run_lem : (c : Capacity) (room : ℕ) (ls : List (List ℕ)) (r : TallyRun d) → lines_touch d ls ≡ true
       → run c room ls (grow_run m r) ≡ grow_run m (run c room ls r)
   unfolding run lines_touch grow_run
   grow_run_lem c room [] r e = refl
   grow_run_lem c room (line ∷ ls) r e =
-      let next = with_answer r (answer c (read_line line) r.tally) in
+      let next = with_answer r (answer_read c (read_line line) r.tally) in
       grow_cond (leb (length r.output + answer_room) room) (run c room ls next) (stopped_run r) _ _
       (ap (run c room ls) (grow_line c (read_line line) r (and_left _ _ e))
-      ∙ grow_run_lem c room ls next (and_right (touches d (read_line line)) (lines_touch d ls) e))
+      ∙ grow_run_lem c room ls next (and_right (read_touches d (read_line line)) (lines_touch d ls) e))
       (grow_stopped r)
 
 grow_start : (d m : ℕ) → grow_tally {d = d} m empty_tally ≡ empty_tally

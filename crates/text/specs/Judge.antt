@@ -1,5 +1,5 @@
 -- What the functions promise that judge a text.
-use Rattle.std.specs.Prelude.{◌≡◌, List, ℕ, ◌+◌, length, false}
+use Rattle.std.specs.Prelude.{◌≡◌, List, ℕ, ◌+◌, length, false, Result}
 use Rattle.diagram.specs.Node.{capacity}
 use Rattle.diagram.specs.Tensor.{indices}
 use Rattle.text.specs.Text.{Bytes}
@@ -13,12 +13,13 @@ use Rattle.text.specs.declared.ruling.Ruling.{Ruling}
 use Rattle.diagram.specs.declared.gate.Gate.{Gate}
 use Rattle.text.specs.declared.list.Lists.{Lists}
 use Rattle.text.specs.declared.check.Item.{Item}
+use Rattle.text.specs.declared.check.Fault.{Fault}
 use Rattle.text.specs.declared.ruling.VerdictResult.{VerdictResult}
 use Rattle.text.specs.declared.call.Call.TheVariants as call
 
 -- the second list was run from here, and the registers compared
 pub record SecondEnsures (l : GateList) (s : List ℕ) (a : ListState) (r : Ruling) : Type 0 where
-  pub is : (hs : List Gate) (rest : List Item) → GateLines l (next_line l.text a.place) hs rest
+  pub is : (hs : List Gate) (rest : List (Result Item Fault)) → GateLines l (next_line l.text a.place) hs rest
       → r ≡ ruling_from_state (at_most (capacity s)) (list_calls l.register l.qubits (a.line + 1) hs) s a
   pub small : SmallRuling r
 

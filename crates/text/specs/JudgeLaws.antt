@@ -1,5 +1,6 @@
 -- Laws of Judge: the second list, the comparison, the whole verdict.
 use Rattle.std.specs.Prelude.{◌≡◌, refl, false, true, List, [], ◌∷◌, ◌-◌, ℕ, ◌+◌, ◌≤◌, ◌<◌, length, drop}
+use Rattle.std.specs.Prelude.{Result, Ok, Err}
 use Rattle.std.proofs.Common.{ap, sym, subst, ◌∙◌, append-nil, arith, length-append, lt-ltb, le-ltb}
 use Rattle.std.proofs.Math.Decide.{dec_lt}
 use Rattle.diagram.specs.Node.{capacity}
@@ -10,7 +11,7 @@ use Rattle.text.specs.Print.{written}
 use Rattle.text.specs.Answer.{SmallAnswer}
 use Rattle.text.specs.Session.{Capacity, answer, at_most}
 use Rattle.text.specs.Check.{lists, read_text, read_lines, gate_items, GoodText, Reading, fault, checked_of}
-use Rattle.text.specs.Check.{TextRead, CheckResultInRange}
+use Rattle.text.specs.Check.{TextRead, CheckedInRange}
 use Rattle.text.specs.Ruling.{SmallRuling, RulingWritten}
 use Rattle.text.specs.VerdictSession.{ruling_of_answer, perform, ruling_at_end, list_calls, session_calls}
 use Rattle.text.specs.VerdictSession.{ruling_of_reading, ruling_on, verdict_result}
@@ -30,8 +31,8 @@ use Rattle.diagram.specs.declared.gate.Gate.{Gate}
 use Rattle.text.specs.declared.check.Item.{Item}
 use Rattle.text.specs.declared.check.Fault.TheVariants.{Full}
 use Rattle.text.specs.declared.ruling.Ruling.TheVariants.{No}
-use Rattle.text.specs.declared.check.CheckResult.{CheckResult}
-use Rattle.text.specs.declared.check.CheckResult.TheVariants.{Faulty, Good}
+use Rattle.text.specs.declared.check.Checked.{Checked}
+use Rattle.text.specs.declared.check.FaultAt.{FaultAt}
 use Rattle.text.specs.declared.check.Fault.{Fault}
 use Rattle.text.specs.declared.ruling.VerdictResult.{VerdictResult}
 use Rattle.text.specs.declared.answer.Answer.TheVariants as answers
@@ -60,7 +61,7 @@ unfolding ruling_from_state ruling_from perform ruling_at_end
 ruling_end c s x q = rw q
 
 module _ {l : GateList} {s c' s' : List ℕ} {a x : ListState} (w : ListEnsures l s c' s' a x) where
-  through : (hs : List Gate) (rest : List Item) → GateLines l (next_line l.text a.place) hs rest
+  through : (hs : List Gate) (rest : List (Result Item Fault)) → GateLines l (next_line l.text a.place) hs rest
       → ruling_from_state (at_most (capacity s)) [] s' x
       ≡ ruling_from_state (at_most (capacity s)) (list_calls l.register l.qubits (a.line + 1) hs) s a
   through hs rest ls =
@@ -99,8 +100,8 @@ text_some text {n} {gs} {hs} t = elim (dec_lt 0 (length text)) [ yes h ↦ h | n
         let z : ◌≡◌ {A = ℕ} 0 1 = cc in omega arith
 
 module _ {text : Bytes} {n parting count : ℕ} (g : GoodText text n parting count) where
-  abbrev tail : List Item
-  tail = item.Parting ∷ gate_items g.second
+  abbrev tail : List (Result Item Fault)
+  tail = Ok item.Parting ∷ gate_items g.second
 
   abbrev first_gates : GateList
   first_gates = gate_list text n 0 (parting - 2)
@@ -180,27 +181,30 @@ module _ {text : Bytes} {n parting count : ℕ} (g : GoodText text n parting cou
 
 -- a faulty text
 
-pub judge_faulty : {text : Bytes} {s : List ℕ} {f : Fault} {line : ℕ} {k : CheckResult} → TextRead text k
-    → k ≡ Faulty f line → JudgeEnsures text s (No f line)
+pub judge_faulty : {text : Bytes} {s : List ℕ} {f : FaultAt} {k : Result Checked FaultAt} → TextRead text k → k ≡ Err f
+    → JudgeEnsures text s (No f.fault f.line)
 unfolding ruling_on ruling_of_reading
-judge_faulty {text} {s} {f} {line} c q = record { is = go (read_text text) refl (sym q ∙ c.checked); small = tt }
+judge_faulty {text} {s} {f} c q = record { is = go (read_text text) refl (sym q ∙ c.checked); small = tt }
   where
-    go : (r : Reading) → read_text text ≡ r → Faulty f line ≡ checked_of r
-        → No f line ≡ ruling_of_reading indices (at_most (capacity s)) (read_text text)
+    go : (r : Reading) → read_text text ≡ r → Err f ≡ checked_of r
+        → No f.fault f.line ≡ ruling_of_reading indices (at_most (capacity s)) (read_text text)
     go (lists n gs hs) e z = absurd (let o : ◌≡◌ {A = ℕ} 0 1 = cc in omega arith)
-    go (fault g at) e z = rw e (let o : f ≡ g = cc in let p : line ≡ at = cc in rw (o, p))
+    go (fault g at) e z = rw e (let o : f ≡ record { fault = g; line = at } = cc in rw o)
 
-pub checked_good : {text : Bytes} {n parting count : ℕ} {k : CheckResult} → TextRead text k → k ≡ Good n parting count
-    → GoodText text n parting count
-checked_good {text} c q = good_text text (sym q ∙ c.checked)
+-- a good text
 
-pub checked_least : {text : Bytes} {n parting count : ℕ} {k : CheckResult} → TextRead text k → k ≡ Good n parting count
-    → 1 ≤ n
-checked_least c q = (subst CheckResultInRange q c.ranged).0
+module _ {text : Bytes} {r : Checked} {k : Result Checked FaultAt} (c : TextRead text k) (q : k ≡ Ok r) where
+  pub checked_good : GoodText text r.n r.parting r.count
+  checked_good = good_text text (sym q ∙ c.checked)
 
-pub checked_most : {text : Bytes} {n parting count : ℕ} {k : CheckResult} → TextRead text k → k ≡ Good n parting count
-    → n ≤ most_qubits
-checked_most c q = (subst CheckResultInRange q c.ranged).1
+  in_range : CheckedInRange r
+  in_range = rw q at c.ranged
+
+  pub checked_least : 1 ≤ r.n
+  checked_least = in_range.0
+
+  pub checked_most : r.n ≤ most_qubits
+  checked_most = in_range.1
 
 -- the answer
 

@@ -1,42 +1,49 @@
 -- Laws of Line: its first field, then those after it; the call is in range.
-use Rattle.std.specs.Prelude.{◌≡◌, true, false, Bool, cond, List, [], ◌∷◌, ℕ}
+use Rattle.std.specs.Prelude.{◌≡◌, true, false, Bool, cond, List, [], ◌∷◌, ℕ, Some, Result, take}
 use Rattle.std.proofs.Common.{arith}
-use Rattle.text.specs.Text.{Bytes, bytes, tab, same_bytes, fields}
+use Rattle.text.specs.Text.{Bytes, bytes, tab, same_bytes, fields, known}
 use Rattle.text.specs.Limits.{most_digits}
 use Rattle.text.specs.Words.{word_of}
 use Rattle.text.specs.Args.{numbers}
-use Rattle.text.specs.Call.{call_of, InRange}
+use Rattle.text.specs.Call.{call_of, malformed, Ranged}
 use Rattle.text.specs.Gate.{gate_call_fields}
 use Rattle.text.specs.Line.{call_fields, read_line, LineRead}
-use Rattle.text.specs.Split.{part, Ends, fields_after}
-use Rattle.text.specs.SplitLaws.{fields_first}
+use Rattle.text.specs.Split.{Ends, fields_after}
+use Rattle.text.specs.SplitLaws.{fields_first, part_front}
 use Rattle.text.specs.CallLaws.{call_ranged}
 use Rattle.text.specs.GateLaws.{gate_fields_ranged}
-use Rattle.text.specs.declared.args.Args.TheVariants.{None}
+use Rattle.text.specs.declared.args.Args.TheVariants.{Zero}
 use Rattle.text.specs.declared.call.Call.{Call}
+use Rattle.text.specs.declared.call.Refusal.{Refusal}
+use Rattle.text.specs.ArgsLaws.{known_lem}
 
-pub line_gate : {s : Bytes} {e : ℕ} → Ends tab s 0 e → same_bytes (part s 0 e) (bytes "gate") ≡ true
+pub line_gate : {s : Bytes} {e : ℕ} → Ends tab s 0 e → same_bytes (take e s) (bytes "gate") ≡ true
     → gate_call_fields (fields_after s e) ≡ read_line s
 unfolding read_line call_fields
-line_gate r t = rw (fields_first (omega arith) r, t)
+line_gate {s} {e} r t = rw (fields_first (omega arith) r, part_front s e, t)
 
-pub line_other : {s : Bytes} {e : ℕ} → Ends tab s 0 e → same_bytes (part s 0 e) (bytes "gate") ≡ false
-    → call_of (word_of (part s 0 e)) (numbers most_digits None (fields_after s e)) ≡ read_line s
+pub line_other : {s : Bytes} {e : ℕ} → Ends tab s 0 e → same_bytes (take e s) (bytes "gate") ≡ false
+    → known malformed (word_of (take e s))
+    (λ w. known malformed (numbers most_digits (Some Zero) (fields_after s e)) (call_of w))
+    ≡ read_line s
 unfolding read_line call_fields
-line_other r t = rw (fields_first (omega arith) r, t)
+line_other {s} {e} r t = rw (fields_first (omega arith) r, part_front s e, t)
 
-fields_ranged : (fs : List Bytes) → InRange (call_fields fs)
+fields_ranged : (fs : List Bytes) → Ranged (call_fields fs)
 unfolding call_fields
 fields_ranged [] = tt
 fields_ranged (w ∷ fs) = go (same_bytes w (bytes "gate"))
   where
-    go : (t : Bool) → InRange (cond t (gate_call_fields fs) (call_of (word_of w) (numbers most_digits None fs)))
+    go : (t : Bool) → Ranged (cond t (gate_call_fields fs)
+        (known malformed (word_of w) (λ w. known malformed (numbers most_digits (Some Zero) fs) (call_of w))))
     go true = gate_fields_ranged fs
-    go false = call_ranged (word_of w) (numbers most_digits None fs)
+    go false =
+        known_lem Ranged _ _ tt
+        (λ w. known_lem Ranged _ _ tt (call_ranged w) (numbers most_digits (Some Zero) fs)) (word_of w)
 
-pub line_ranged : (line : Bytes) → InRange (read_line line)
+pub line_ranged : (line : Bytes) → Ranged (read_line line)
 unfolding read_line
 line_ranged line = fields_ranged (fields line)
 
-pub line_read : {line : Bytes} {r : Call} → r ≡ read_line line → LineRead line r
+pub line_read : {line : Bytes} {r : Result Call Refusal} → r ≡ read_line line → LineRead line r
 line_read {line} e = record { call = e; ranged = rw e (line_ranged line) }

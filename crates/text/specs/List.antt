@@ -1,6 +1,7 @@
 -- Running the lists of a verdict's text line by line, as the code does it.
-use Rattle.std.specs.Prelude.{List, ◌++◌, [], ◌∷◌, ◌≡◌, Bool, false, ℕ, ◌+◌, ◌≤◌, ◌<◌, length, drop, Result, ⊤}
+use Rattle.std.specs.Prelude.{List, ◌++◌, [], ◌∷◌, ◌≡◌, Bool, false, ℕ, ◌+◌, ◌≤◌, ◌<◌, length, drop, Result, Ok, ⊤}
 use Rattle.std.specs.Result.{is_err}
+use Rattle.text.specs.declared.check.Fault.{Fault}
 use Rattle.diagram.specs.Node.{capacity}
 use Rattle.text.specs.Text.{Bytes, LF, lines}
 use Rattle.text.specs.Session.{Capacity, at_most}
@@ -61,11 +62,11 @@ pub record OpenEnsures (text : Bytes) (n r : ℕ) (s c' s' : List ℕ) (a x : Li
 pub record GateRequires (text : Bytes) (n : ℕ) (a : ListState) : Type 0 where
   pub ahead : LineAhead text a
   pub gate : Gate
-  pub is : item_of n (part text a.place (end_from LF text a.place)) ≡ item.Gate gate
+  pub is : item_of n (part text a.place (end_from LF text a.place)) ≡ Ok (item.Gate gate)
 
 pub record GateEnsures (text : Bytes) (n r : ℕ) (s c' s' : List ℕ) (a x : ListState) : Type 0 where
   pub passes : LinePassed text a x
-  pub performs : (g : Gate) → item_of n (part text a.place (end_from LF text a.place)) ≡ item.Gate g
+  pub performs : (g : Gate) → item_of n (part text a.place (end_from LF text a.place)) ≡ Ok (item.Gate g)
       → PerformsLines s c' s' a (at_line (a.line + 1) (gate_calls r g)) x
 
 -- a list of a verdict's text: `count` gate lines on so many qubits, run in a register
@@ -79,18 +80,18 @@ abbrev pub gate_list : Bytes → ℕ → ℕ → ℕ → GateList
 gate_list text n r count = record { text = text; qubits = n; register = r; count = count }
 
 -- the items of the text from this place on
-abbrev pub items_from : GateList → ℕ → List Item
+abbrev pub items_from : GateList → ℕ → List (Result Item Fault)
 items_from l place = items l.qubits (lines (drop place l.text))
 
 -- the list's gate lines begin at this place: these gates, and other items after them
-pub record GateLines (l : GateList) (place : ℕ) (gs : List Gate) (rest : List Item) : Type 0 where
+pub record GateLines (l : GateList) (place : ℕ) (gs : List Gate) (rest : List (Result Item Fault)) : Type 0 where
   pub is : items_from l place ≡ gate_items gs ++ rest
   pub long : length gs ≡ l.count
 
 -- the list's gate lines are at hand
 pub record GatesRequires (l : GateList) (a : ListState) : Type 0 where
   pub first : List Gate
-  pub rest : List Item
+  pub rest : List (Result Item Fault)
   pub are : GateLines l a.place first rest
   pub passed : a.line ≤ a.place
 
@@ -98,7 +99,7 @@ pub record GatesRequires (l : GateList) (a : ListState) : Type 0 where
 pub record ListRequires (l : GateList) (a : ListState) : Type 0 where
   pub ahead : LineAhead l.text a
   pub first : List Gate
-  pub rest : List Item
+  pub rest : List (Result Item Fault)
   pub are : GateLines l (next_line l.text a.place) first rest
 
 -- What of a list is run: its gate lines, which begin at `place`, and perhaps lines before them. They are so many in
@@ -119,7 +120,7 @@ whole_part l a = record {
 }
 
 -- so many lines are passed, and the items `rest` are ahead
-pub record ListEnds (l : GateList) (count : ℕ) (rest : List Item) (a x : ListState) : Type 0 where
+pub record ListEnds (l : GateList) (count : ℕ) (rest : List (Result Item Fault)) (a x : ListState) : Type 0 where
   pub next : items_from l x.place ≡ rest
   pub line : x.line ≡ a.line + count
 
@@ -127,9 +128,9 @@ pub record ListEnds (l : GateList) (count : ℕ) (rest : List Item) (a x : ListS
 pub record LinesEnsures (l : GateList) (k : ListPart) (s c' s' : List ℕ) (a x : ListState) : Type 0 where
   pub invariant : EngineInvariant c' s' x.engine
   pub passed : x.line ≤ x.place
-  pub performs : (gs : List Gate) (rest : List Item) → GateLines l k.place gs rest
+  pub performs : (gs : List Gate) (rest : List (Result Item Fault)) → GateLines l k.place gs rest
       → PerformsLines s c' s' a (k.calls gs) x
-  pub ends : (gs : List Gate) (rest : List Item) → GateLines l k.place gs rest → x.refused ≡ false
+  pub ends : (gs : List Gate) (rest : List (Result Item Fault)) → GateLines l k.place gs rest → x.refused ≡ false
       → ListEnds l k.count rest a x
 
 -- the list's gates
@@ -141,7 +142,8 @@ abbrev pub ListEnsures : GateList → List ℕ → List ℕ → List ℕ → Lis
 ListEnsures l s c' s' a x = LinesEnsures l (whole_part l a) s c' s' a x
 
 -- the loop over a list's gate lines, whose gates are gs: those in `left` are still to be run
-pub record GatesReached (l : GateList) (a : ListState) (s₀ : List ℕ) (gs : List Gate) (rest : List Item) (s : List ℕ)
+pub record GatesReached (l : GateList) (a : ListState) (s₀ : List ℕ) (gs : List Gate)
+    (rest : List (Result Item Fault)) (s : List ℕ)
     (p : ListState) : Type 0 where
   pub left : List Gate
   pub counted : p.line + length left ≡ a.line + l.count
@@ -156,7 +158,8 @@ pub record GatesLoop (l : GateList) (a : ListState) (s₀ c s : List ℕ) (i : �
   pub within : i ≤ l.count
   pub passed : p.line ≤ p.place
   pub line : p.line ≡ a.line + i
-  pub each : (gs : List Gate) (rest : List Item) → GateLines l a.place gs rest → GatesReached l a s₀ gs rest s p
+  pub each : (gs : List Gate) (rest : List (Result Item Fault)) → GateLines l a.place gs rest
+      → GatesReached l a s₀ gs rest s p
 
 -- the same, of the lists l before the call and l' after it
 

@@ -1,5 +1,7 @@
 -- Laws of List: a line, the loop over gate lines, a whole list.
 use Rattle.std.specs.Prelude.{◌≡◌, refl, List, [], ◌∷◌, ◌++◌, false, true, ℕ, ◌+◌, ◌≤◌, ◌<◌, length}
+use Rattle.std.specs.Prelude.{Result, Ok}
+use Rattle.text.specs.declared.check.Fault.{Fault}
 use Rattle.std.proofs.Common.{ap, sym, subst, ◌∙◌, append_assoc, true≢false, arith}
 use Rattle.diagram.specs.Node.{capacity}
 use Rattle.text.specs.Text.{Bytes, LF}
@@ -35,7 +37,7 @@ ruling_not_refused : (c : Capacity) (line : ℕ) (more : List NumberedCall) (s :
 unfolding ruling_from ruling_from_state
 ruling_not_refused c line more s a q = rw q
 
-same_gate : {g k : Gate} → item.Gate g ≡ item.Gate k → g ≡ k
+same_gate : {g k : Gate} → ◌≡◌ {A = Result Item Fault} (Ok (item.Gate g)) (Ok (item.Gate k)) → g ≡ k
 same_gate e = cc
 
 module _ {text : Bytes} {a x : ListState} {e : ℕ} {b : PerformState} (h : LineAhead text a)
@@ -70,7 +72,7 @@ module _ {text : Bytes} {a x : ListState} {e : ℕ} {b : PerformState} (h : Line
       → GateEnsures text m r s c' s' a x
   gate_ensures {m} {r} {s} {c'} {s'} {g} f w = record { passes = line_passed; performs = each }
     where
-      each : (k : Gate) → item_of m (part text a.place (end_from LF text a.place)) ≡ item.Gate k
+      each : (k : Gate) → item_of m (part text a.place (end_from LF text a.place)) ≡ Ok (item.Gate k)
           → PerformsLines s c' s' a (at_line (a.line + 1) (gate_calls r k)) x
       each k z =
           subst (λ y. PerformsLines s c' s' a (at_line (a.line + 1) (gate_calls r y)) x)
@@ -101,7 +103,7 @@ no_gates : (r line : ℕ) (more : List NumberedCall) → gates_calls r line [] +
 unfolding gates_calls
 no_gates r line more = refl
 
-items_none : (rest : List Item) → gate_items [] ++ rest ≡ rest
+items_none : (rest : List (Result Item Fault)) → gate_items [] ++ rest ≡ rest
 unfolding gate_items
 items_none rest = refl
 
@@ -117,7 +119,7 @@ module _ {text : Bytes} {n r count : ℕ} {a : ListState} {s₀ c s : List ℕ} 
   l = gate_list text n r count
 
   -- a gate line is at hand
-  gate_left : {gs : List Gate} {rest : List Item} → i < count → (v : GatesReached l a s₀ gs rest s p)
+  gate_left : {gs : List Gate} {rest : List (Result Item Fault)} → i < count → (v : GatesReached l a s₀ gs rest s p)
       → (k : Gate) × ((ks : List Gate) × (v.left ≡ k ∷ ks))
   gate_left {gs} {rest} h v = go v.left refl
     where
@@ -148,7 +150,8 @@ module _ {text : Bytes} {n r count : ℕ} {a : ListState} {s₀ c s : List ℕ} 
     each = each;
   }
     where
-      each : (gs : List Gate) (rest : List Item) → GateLines l a.place gs rest → GatesReached l a s₀ gs rest s' y
+      each : (gs : List Gate) (rest : List (Result Item Fault)) → GateLines l a.place gs rest
+          → GatesReached l a s₀ gs rest s' y
       each gs rest ls =
           let v = g.each gs rest ls in
           let d = gate_left h v in
@@ -193,7 +196,7 @@ module _ {text : Bytes} {n r count : ℕ} {a : ListState} {s₀ c s : List ℕ} 
       empty [] e = refl
       empty (k ∷ ks) e = absurd (omega arith)
 
-      none_left : {gs : List Gate} {rest : List Item} (v : GatesReached l a s₀ gs rest s p) → v.left ≡ []
+      none_left : {gs : List Gate} {rest : List (Result Item Fault)} (v : GatesReached l a s₀ gs rest s p) → v.left ≡ []
       none_left v = empty v.left (omega (arith, v.counted, g.line))
 
       gates_none : (r line : ℕ) (more : List NumberedCall)
@@ -201,7 +204,7 @@ module _ {text : Bytes} {n r count : ℕ} {a : ListState} {s₀ c s : List ℕ} 
           ≡ ruling_from_state (at_most (capacity s₀)) more s p
       gates_none r line more = ap (λ calls. ruling_from_state (at_most (capacity s₀)) calls s p) (no_gates r line more)
 
-      performs : (gs : List Gate) (rest : List Item) → GateLines l a.place gs rest
+      performs : (gs : List Gate) (rest : List (Result Item Fault)) → GateLines l a.place gs rest
           → PerformsLines s₀ c s a (gates_calls r (a.line + 1) gs) p
       performs gs rest ls =
           let v = g.each gs rest ls in
@@ -214,7 +217,7 @@ module _ {text : Bytes} {n r count : ℕ} {a : ListState} {s₀ c s : List ℕ} 
                 ∙ gates_none r (p.line + 1) more;
           }
 
-      ends : (gs : List Gate) (rest : List Item) → GateLines l a.place gs rest → p.refused ≡ false
+      ends : (gs : List Gate) (rest : List (Result Item Fault)) → GateLines l a.place gs rest → p.refused ≡ false
           → ListEnds l count rest a p
       ends gs rest ls z =
           let v = g.each gs rest ls in
@@ -225,7 +228,8 @@ module _ {text : Bytes} {n r count : ℕ} {a : ListState} {s₀ c s : List ℕ} 
 
 -- a whole list
 
-gate_lines_next : {l : GateList} {a x : ListState} {gs : List Gate} {rest : List Item} → LinePassed l.text a x
+gate_lines_next : {l : GateList} {a x : ListState} {gs : List Gate} {rest : List (Result Item Fault)}
+    → LinePassed l.text a x
     → GateLines l (next_line l.text a.place) gs rest
     → GateLines l x.place gs rest
 gate_lines_next m ls = rw m.place ls
@@ -246,7 +250,7 @@ pub list_ensures : {l : GateList} {s c₁ s₁ c' s' : List ℕ} {a x y : ListSt
 list_ensures {l} {s} {c₁} {s₁} {c'} {s'} {a} {x} {y} m o w =
     record { invariant = w.invariant; passed = w.passed; performs = performs; ends = ends }
   where
-    performs : (gs : List Gate) (rest : List Item) → GateLines l (next_line l.text a.place) gs rest
+    performs : (gs : List Gate) (rest : List (Result Item Fault)) → GateLines l (next_line l.text a.place) gs rest
         → PerformsLines s c' s' a (list_calls l.register l.qubits (a.line + 1) gs) y
     performs gs rest ls = record {
       invariant = w.invariant;
@@ -262,7 +266,8 @@ list_ensures {l} {s} {c₁} {s₁} {c'} {s'} {a} {x} {y} m o w =
             ≡ ruling_from_state (at_most (capacity s)) more s' y
         gates_then more d = rw (← o.passes.line, ← m) (d.is more)
 
-    ends : (gs : List Gate) (rest : List Item) → GateLines l (next_line l.text a.place) gs rest → y.refused
+    ends : (gs : List Gate) (rest : List (Result Item Fault)) → GateLines l (next_line l.text a.place) gs rest
+        → y.refused
         ≡ false
         → ListEnds l (1 + l.count) rest a y
     ends gs rest ls z =

@@ -1,20 +1,18 @@
 -- The gates' names (document 01, "Gates"), and where a gate may stand.
-use Rattle.std.specs.Prelude.{cond, ◌≢◌, ℕ, ◌<◌}
+use Rattle.std.specs.Prelude.{cond, ◌≢◌, ℕ, ◌<◌, Option, Some, None}
 use Rattle.diagram.specs.Gate.{shape}
 use Rattle.text.specs.Text.{Bytes, same_bytes, bytes}
-use Rattle.text.specs.declared.names.NameResult.{NameResult}
 use Rattle.diagram.specs.declared.gate.Gate.{Gate}
 use Rattle.diagram.specs.declared.gate.Gate.TheVariants.{X, Y, Z, H, S, Sd, T, Td, Cx, Cz, Sw}
 use Rattle.diagram.specs.declared.gate.Shape.{Shape}
 use Rattle.diagram.specs.declared.gate.Shape.TheVariants.{One, Two}
-use Rattle.text.specs.declared.names.NameResult.TheVariants as named
 
--- this gate, where s is its name; else the other
-unfoldable pub choose_name : Bytes → Bytes → Gate → NameResult → NameResult
-choose_name s name g other = cond (same_bytes s name) (named.Gate g) other
+-- this gate, where s is its name; else the other, if there is one
+abbrev pub choose_name : Bytes → Bytes → Gate → Option Gate → Option Gate
+choose_name s name g other = cond (same_bytes s name) (Some g) other
 
 -- "X 0 1 1 0; Y 0 -i i 0; Z 1 0 0 -1; H h h h -h. Diagonal ones are 1 and: S 256, SD 65281, T 16, TD 61441."
-unfoldable pub one_qubit : Bytes → ℕ → NameResult
+unfoldable pub one_qubit : Bytes → ℕ → Option Gate
 one_qubit s q =
     choose_name s (bytes "X") (X q)
     (choose_name s (bytes "Y") (Y q)
@@ -24,20 +22,15 @@ one_qubit s q =
     (choose_name s (bytes "SD") (Sd q)
     (choose_name s (bytes "T") (T q)
     (choose_name s (bytes "TD") (Td q)
-    named.Unknown)))))))
+    None)))))))
 
 -- "CX a b: ..", "CZ a b: ..", "SW exchanges them."
-unfoldable pub two_qubits : Bytes → ℕ → ℕ → NameResult
+unfoldable pub two_qubits : Bytes → ℕ → ℕ → Option Gate
 two_qubits s p q =
     choose_name s (bytes "CX") (Cx p q)
     (choose_name s (bytes "CZ") (Cz p q)
     (choose_name s (bytes "SW") (Sw p q)
-    named.Unknown))
-
--- what a line says of the gate that it names, or that it names none
-abbrev pub known : {A : Type 0} → A → NameResult → (Gate → A) → A
-known wrong named.Unknown next = wrong
-known wrong (named.Gate g) next = next g
+    None))
 
 -- a gate on qubits below n, which differ where they are two
 abbrev pub PlacedOn : ℕ → Shape → Type 0
@@ -48,9 +41,9 @@ abbrev pub Placed : ℕ → Gate → Type 0
 Placed n g = PlacedOn n (shape g)
 
 -- A gate that a name gives is placed where its qubits are in range.
-abbrev Places : ℕ → Type 0 → NameResult → Type 0
-Places n condition named.Unknown = Unit
-Places n condition (named.Gate g) = condition → Placed n g
+abbrev Places : ℕ → Type 0 → Option Gate → Type 0
+Places n condition None = Unit
+Places n condition (Some g) = condition → Placed n g
 
-pub record PlacedName (n : ℕ) (condition : Type 0) (name : NameResult) : Type 0 where
+pub record PlacedName (n : ℕ) (condition : Type 0) (name : Option Gate) : Type 0 where
   pub place : Places n condition name

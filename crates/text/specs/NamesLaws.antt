@@ -1,20 +1,17 @@
 -- Laws of Names: a gate that a name gives is placed where its qubits are in range.
-use Rattle.std.specs.Prelude.{Bool, true, false, cond, ◌≢◌, ℕ, ◌<◌}
-use Rattle.text.specs.Text.{Bytes, same_bytes}
-use Rattle.text.specs.Names.{PlacedName, choose_name, Placed, one_qubit, two_qubits, known}
-use Rattle.text.specs.declared.names.NameResult.{NameResult}
+use Rattle.std.specs.Prelude.{Bool, true, false, cond, ◌≢◌, ℕ, ◌<◌, Option, Some, None}
+use Rattle.text.specs.Text.{Bytes, same_bytes, known}
+use Rattle.text.specs.Names.{PlacedName, choose_name, Placed, one_qubit, two_qubits}
 use Rattle.diagram.specs.declared.gate.Gate.{Gate as Gate'}
-use Rattle.text.specs.declared.names.NameResult.TheVariants as named
 use Rattle.diagram.specs.declared.gate.Gate.TheVariants as gate
 
-choose_placed : {n : ℕ} {condition : Type 0} (s name : Bytes) (g : Gate') (other : NameResult)
+choose_placed : {n : ℕ} {condition : Type 0} (s name : Bytes) (g : Gate') (other : Option Gate')
     → (condition → Placed n g)
     → PlacedName n condition other
     → PlacedName n condition (choose_name s name g other)
-unfolding choose_name
 choose_placed {n} {condition} s name g other x y = go (same_bytes s name)
   where
-    go : (t : Bool) → PlacedName n condition (cond t (named.Gate g) other)
+    go : (t : Bool) → PlacedName n condition (cond t (Some g) other)
     go true = record { place = x }
     go false = y
 
@@ -41,8 +38,8 @@ two_placed n s p q =
 
 -- so what a line says of it may count on that
 pub known_placed : {A : Type 0} (P : A → Type 0) (wrong : A) (next : Gate' → A) {n : ℕ} {condition : Type 0}
-    {name : NameResult} → P wrong
+    {name : Option Gate'} → P wrong
     → PlacedName n condition name
     → ((g : Gate') → (condition → Placed n g) → P (next g)) → P (known wrong name next)
-known_placed P wrong next {name = named.Unknown} p x f = p
-known_placed P wrong next {name = named.Gate g} p x f = f g x.place
+known_placed P wrong next {name = None} p x f = p
+known_placed P wrong next {name = Some g} p x f = f g x.place

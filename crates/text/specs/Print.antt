@@ -1,6 +1,5 @@
 -- Bytes and numbers put at a place of the output.
 use Rattle.std.specs.Prelude.{cond, [], ◌∷◌, ◌++◌, ◌≡◌, ℕ, zero, suc, ◌+◌, ◌/◌, ◌%◌, ◌≤◌, ltb, length, take, drop}
-use Rattle.std.proofs.lemmas.List.Edits.{sets}
 use Rattle.text.specs.Text.{Bytes}
 
 -- the digits of n, at most k of them
@@ -20,9 +19,3 @@ written l at text = take at l ++ text ++ drop (at + length text) l
 pub record WriteEnsures (l : Bytes) (at : ℕ) (s l' : Bytes) (e : ℕ) : Type 0 where
   pub exact : l' ≡ written l at s
   pub after : e ≡ at + length s
-
--- The first i bytes of a text have been put.
-pub record PutBytesLoop (l : Bytes) (at : ℕ) (s l' : Bytes) (i : ℕ) : Type 0 where
-  pub within : i ≤ length s
-  pub room : length l' ≡ length l
-  pub same : l' ≡ sets l at (take i s)

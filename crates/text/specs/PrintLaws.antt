@@ -1,13 +1,15 @@
 -- Laws of Print: bytes written behind others, and the digits of a number.
-use Rattle.std.specs.Prelude.{◌≡◌, refl, [], ◌∷◌, ◌++◌, cond, Bool, true, false, ℕ, suc, ◌+◌, ◌≤◌, ◌<◌, zero, ◌/◌, ◌%◌}
+use Rattle.std.specs.Prelude.{◌≡◌, refl, [], ◌∷◌, ◌++◌, cond, Bool, true, false, ℕ, suc, ◌+◌, ◌-◌, ◌≤◌, ◌<◌, zero}
+use Rattle.std.specs.Prelude.{◌/◌, ◌%◌}
 use Rattle.std.specs.Prelude.{◌^◌, length, set, take, get_or, drop, ltb}
 use Rattle.std.proofs.Common.{ap, sym, ◌∙◌, append-nil, arith, add-zero, pow-suc, div-lt_iff_lt-mul, add-one}
 use Rattle.std.proofs.Common.{take-append-drop, length-append, length-set, take-suc, length-take-le, take_all, lt-ltb}
-use Rattle.std.proofs.Common.{le-ltb}
+use Rattle.std.proofs.Common.{le-ltb, drop-drop, append_assoc}
+use borrow.Rule.Slice.PartMut.{put_mid}
 use Rattle.std.proofs.lemmas.List.Edits.{sets, sets-eq}
 use Rattle.std.proofs.Math.Seq.{length-sets, take-append_seam, drop-append_seam}
 use Rattle.text.specs.Text.{Bytes}
-use Rattle.text.specs.Print.{written, WriteEnsures, PutBytesLoop, digits, decimal}
+use Rattle.text.specs.Print.{written, WriteEnsures, digits, decimal}
 
 -- Texts written one after the other.
 
@@ -58,24 +60,12 @@ wrote_then {l} {l1} {l2} {s} {t} {at} {e} {r} w v h =
 pub wrote_byte : (l : Bytes) (at v : ℕ) → at < length l → WriteEnsures l at (v ∷ []) (set l at v) (at + 1)
 wrote_byte l at v h = record { exact = sym (written_sets l at (v ∷ []) (omega arith)); after = refl }
 
-pub put_bytes_loop_start : {l : Bytes} {at : ℕ} {s : Bytes} → PutBytesLoop l at s l 0
-put_bytes_loop_start = record { within = omega arith; room = refl; same = refl }
-
-pub put_bytes_loop_next : {l : Bytes} {at : ℕ} {s l' : Bytes} {i : ℕ} → PutBytesLoop l at s l' i → i < length s
-    → PutBytesLoop l at s (set l' (at + i) (get_or s i 0)) (i + 1)
-put_bytes_loop_next {l} {at} {s} {l'} {i} p h =
-    let size : at + length (take i s) ≡ at + i = omega (arith, length-take-le i s p.within) in
-    record {
-      within = omega arith;
-      room = length-set l' (at + i) (get_or s i 0) ∙ p.room;
-      same = rw (p.same, add-one i, take-suc s i 0 h, ← sets_append l at (take i s) (get_or s i 0 ∷ []), size);
-    }
-
-pub put_bytes_loop_end : {l : Bytes} {at : ℕ} {s l' : Bytes} {i : ℕ} → PutBytesLoop l at s l' i → length s ≤ i
-    → at + length s ≤ length l
-    → WriteEnsures l at s l' (at + i)
-put_bytes_loop_end {l} {at} {s} {l'} {i} p h n =
-    record { exact = rw (p.same, take_all i s h, written_sets l at s n); after = omega arith }
+pub put_bytes_copied : (l : Bytes) (at : ℕ) {s s' : Bytes} → s' ≡ s
+    → put_mid at (at + length s - at) l s' ≡ written l at s
+unfolding written
+put_bytes_copied l at {s} e =
+    let n : at + length s - at ≡ length s = omega arith in
+    rw (e, n) (simp (drop-drop, append_assoc))
 
 -- Decimal digits.
 

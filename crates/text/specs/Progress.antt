@@ -6,7 +6,7 @@ use Rattle.text.specs.Text.{Bytes, LF, lines}
 use Rattle.text.specs.Limits.{answer_room}
 use Rattle.text.specs.Line.{read_line}
 use Rattle.text.specs.Answer.{is_no}
-use Rattle.text.specs.Session.{TallyRun, Tally, at_most, with_answer, answer, run}
+use Rattle.text.specs.Session.{TallyRun, Tally, at_most, with_answer, answer_read, run}
 use Rattle.text.specs.Agrees.{Unchanged, AgreesThroughout, Passes, before_stop}
 use Rattle.text.specs.Split.{part, Ends}
 use Rattle.text.specs.Engine.{Contents, contents, tally_of, EngineInvariant}
@@ -55,14 +55,14 @@ run_from t = record { code = 0; answered = 0; output = []; tally = t }
 pub record AnswerLineEnsures (line : Bytes) (next : ℕ) (s c' s' : List ℕ) (o o' : Bytes) (p r : RunState) : Type 0 where
   pub invariant : EngineInvariant c' s' r.engine
   pub is : run_of s' o' r ≡ with_answer (run_of s o p)
-      (answer (at_most (capacity s)) (read_line line) (tally_of s p.engine))
+      (answer_read (at_most (capacity s)) (read_line line) (tally_of s p.engine))
   pub code : r.code ≡ 0
   pub lines : r.lines ≡ p.lines + 1
   pub place : r.place ≡ next
   pub behind : p.bytes ≤ r.bytes
   pub bytes : r.bytes ≤ length o
   pub rest : drop r.bytes o' ≡ drop r.bytes o
-  pub refused : is_no (answer (at_most (capacity s)) (read_line line) (tally_of s p.engine)).0 ≡ true
+  pub refused : is_no (answer_read (at_most (capacity s)) (read_line line) (tally_of s p.engine)).0 ≡ true
       → Unchanged s s' p.engine.state.count r.engine.state.count p.engine.registers.all
       r.engine.registers.all
 

@@ -1,7 +1,7 @@
 -- Laws of Progress: one line, the loop, the whole session.
 use Rattle.std.proofs.Math.Path.{ap, refl, subst}
 use Rattle.std.proofs.Common.{◌∙◌, sym, arith, add-one, take-append-drop, length-drop, take-take, take_all, le-leb}
-use Rattle.std.specs.Prelude.{◌≡◌, ◌≢◌, cond, ℕ, ◌+◌, ◌-◌, ◌≤◌, ◌<◌, length, take, drop, get_or, leb}
+use Rattle.std.specs.Prelude.{◌≡◌, ◌≢◌, cond, ℕ, ◌+◌, ◌-◌, ◌≤◌, ◌<◌, length, take, drop, get_or, leb, Result}
 use mathlib.Core.List.{List, [], ◌∷◌}
 use Rattle.std.proofs.Math.Seq.{length-take-le}
 use Rattle.std.proofs.lemmas.Bool.{lt-leb}
@@ -13,12 +13,12 @@ use Rattle.text.specs.Limits.{answer_room}
 use Rattle.text.specs.Line.{LineRead, read_line}
 use Rattle.text.specs.Print.{written}
 use Rattle.text.specs.Answer.{printed, is_no, AnswerWritten}
-use Rattle.text.specs.Session.{with_answer, node_count, at_most, TallyRun, run, answer, empty_run}
+use Rattle.text.specs.Session.{with_answer, node_count, at_most, TallyRun, run, answer_read, empty_run}
 use Rattle.text.specs.Session as tally
 use Rattle.text.specs.Agrees.{line, Agrees, Passes, before_stop, start, OneLine, AgreesThroughout}
 use Rattle.text.specs.Split.{part, Ends}
 use Rattle.text.specs.Engine.{Contents, Reply, tally_of, EngineInvariant, EngineStartEnsures}
-use Rattle.text.specs.Respond.{RespondEnsures}
+use Rattle.text.specs.Respond.{ReplyEnsures}
 use Rattle.text.specs.Progress.{RunState, run_of, AnswerLineEnsures, ResumeLineEnsures, result_of, result_at_start, run_from}
 use Rattle.text.specs.Progress.{ResumeEnsures, ResumeLoop, stopped_progress, ResumeLineRequires}
 use Rattle.text.specs.SplitLaws.{drop_further, drop_take, take_more, get_or_next, drop_one, ends_from, lines_first}
@@ -28,14 +28,14 @@ use Rattle.text.specs.SessionLaws.{run_append}
 use Rattle.text.specs.AgreesLaws.{node_tensors_lem, same_filled, filled_valid, empty_zero, is_node, weight_times_node}
 use Rattle.text.specs.AgreesLaws.{same_exactly, no_multiples}
 use Rattle.text.specs.declared.call.Call.{Call}
+use Rattle.text.specs.declared.call.Refusal.{Refusal}
 use Rattle.text.specs.declared.progress.SessionResult.{SessionResult}
 
 -- a line
 
-pub answer_line_ensures : {line : Bytes} {next : ℕ} {s c' s' : List ℕ} {o o' : Bytes} {p : RunState} {x : Call}
-    {y : Reply}
-    {n : ℕ} → LineRead line x
-    → RespondEnsures c' s s' p.engine x y → AnswerWritten o p.bytes y.answer o' n
+pub answer_line_ensures : {line : Bytes} {next : ℕ} {s c' s' : List ℕ} {o o' : Bytes} {p : RunState}
+    {x : Result Call Refusal} {y : Reply} {n : ℕ} → LineRead line x
+    → ReplyEnsures c' s s' p.engine x y → AnswerWritten o p.bytes y.answer o' n
     → p.bytes + answer_room ≤ length o
     → AnswerLineEnsures line next s c' s' o o' p
     (record { code = 0; lines = p.lines + 1; bytes = n; place = next; engine = y.engine })
@@ -183,7 +183,7 @@ module _ {text : Bytes} {limit : ℕ} {e : Contents} {s₀ : List ℕ} {o₀ : B
 
     next_run : (ls : List Bytes)
         → runs (part text p.place k ∷ ls) (run_of s o p) ≡ cond (leb (p.bytes + answer_room) (length o₀))
-        (runs ls (with_answer (run_of s o p) (answer (at_most (capacity s₀)) (read_line (part text p.place k))
+        (runs ls (with_answer (run_of s o p) (answer_read (at_most (capacity s₀)) (read_line (part text p.place k))
         (tally_of s p.engine))))
         (tally.stopped_run (run_of s o p))
     unfolding run

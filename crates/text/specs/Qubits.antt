@@ -5,14 +5,12 @@ use Rattle.diagram.specs.Tensor.{Bits}
 use Rattle.text.specs.Limits.{most_qubits}
 use Rattle.diagram.specs.declared.gate.Shape.{Shape}
 use Rattle.diagram.specs.declared.gate.Gate.{Gate}
-use Rattle.text.specs.declared.qubits.Qubits.{Qubits}
-use Rattle.text.specs.declared.qubits.Qubits.TheVariants.{One, Two}
-use Rattle.diagram.specs.declared.gate.Shape.TheVariants as shapes
+use Rattle.diagram.specs.declared.gate.Shape.TheVariants.{One, Two}
 
 -- the qubits of a gate, "in rising order"
 abbrev pub qubits_on : Shape → List ℕ
-qubits_on (shapes.One q) = q ∷ []
-qubits_on (shapes.Two a b) = min a b ∷ max a b ∷ []
+qubits_on (One q) = q ∷ []
+qubits_on (Two a b) = min a b ∷ max a b ∷ []
 
 abbrev pub qubits : Gate → List ℕ
 qubits g = qubits_on (shape g)
@@ -38,14 +36,14 @@ AllFit d [] = Unit {0}
 AllFit d (g ∷ gs) = Rising d 0 (qubits g) × AllFit d gs
 
 -- as the code has them: in a list, each one of the eight, those of a gate
-abbrev pub qubit_list : Qubits → List ℕ
+abbrev pub qubit_list : Shape → List ℕ
 qubit_list (One q) = q ∷ []
 qubit_list (Two p q) = p ∷ q ∷ []
 
-abbrev pub AllBelowEight : Qubits → Type 0
+abbrev pub AllBelowEight : Shape → Type 0
 AllBelowEight (One q) = q < most_qubits
 AllBelowEight (Two p q) = (p < most_qubits) × (q < most_qubits)
 
-pub record QubitsOf (g : Gate) (r : Qubits) : Type 0 where
+pub record QubitsOf (g : Gate) (r : Shape) : Type 0 where
   pub is : qubit_list r ≡ qubits g
   pub below : AllBelowEight r

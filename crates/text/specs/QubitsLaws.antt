@@ -15,9 +15,7 @@ use Rattle.text.specs.Qubits.{QubitsOf, qubits_on, qubits, qubit_list, middles, 
 use Rattle.text.specs.Qubits.{AllFit}
 use Rattle.diagram.specs.declared.gate.Gate.{Gate}
 use Rattle.diagram.specs.declared.gate.Shape.{Shape}
-use Rattle.text.specs.declared.qubits.Qubits.TheVariants.{One, Two}
-use Rattle.text.specs.declared.qubits.Qubits.{Qubits}
-use Rattle.diagram.specs.declared.gate.Shape.TheVariants as shapes
+use Rattle.diagram.specs.declared.gate.Shape.TheVariants.{One, Two}
 
 module _ (g : Gate) {x : Shape} (h : Placed most_qubits g) (e : x ≡ shape g) where
   placed : {y : Shape} → x ≡ y → PlacedOn most_qubits y
@@ -26,18 +24,13 @@ module _ (g : Gate) {x : Shape} (h : Placed most_qubits g) (e : x ≡ shape g) w
   listed_as : {y : Shape} → x ≡ y → qubits_on y ≡ qubits g
   listed_as f = ap qubits_on (sym f ∙ e)
 
-  pub qubits_one : {q : ℕ} → x ≡ shapes.One q → QubitsOf g (One q)
+  pub qubits_one : {q : ℕ} → x ≡ One q → QubitsOf g (One q)
   qubits_one f = record { is = listed_as f; below = placed f }
 
-  module _ {p q : ℕ} (f : x ≡ shapes.Two p q) where
-    ordered : {a b : ℕ} → a ≡ min p q → b ≡ max p q → QubitsOf g (Two a b)
-    ordered u v = let k = placed f in record { is = rw (u, v) (listed_as f); below = (omega arith, omega arith) }
-
-    pub qubits_below_lem : q < p → QubitsOf g (Two q p)
-    qubits_below_lem l = ordered (omega arith) (omega arith)
-
-    pub qubits_above : p ≤ q → QubitsOf g (Two p q)
-    qubits_above l = ordered (omega arith) (omega arith)
+  pub qubits_two : {p q a b : ℕ} → x ≡ Two p q → a ≡ min p q → b ≡ max p q → QubitsOf g (Two a b)
+  qubits_two f u v =
+      let k = placed f in
+      record { is = rw (u, v) (listed_as f); below = (rw u (omega arith), rw v (omega arith)) }
 
 -- 2 to the middle index
 
@@ -47,22 +40,22 @@ middle_set q p = one_shl (3 * q + 1) (omega arith)
 pub middle_small : (q : ℕ) → q < most_qubits → (1 * 2 ^ (3 * q + 1)) % 2 ^ 64 < 8388608
 middle_small q p = rw (middle_set q p) (pow-lt {i = 3 * q + 1} {j = 23} (omega arith))
 
-pub middles_one : {q r : ℕ} {x : Qubits} → x ≡ One q → r ≡ 2 ^ (3 * q + 1) → r ≡ middles (qubit_list x)
+pub middles_one : {q r : ℕ} {x : Shape} → x ≡ One q → r ≡ 2 ^ (3 * q + 1) → r ≡ middles (qubit_list x)
 unfolding middles
 middles_one m e = rw m (omega arith)
 
-pub middles_two : {p q r s : ℕ} {x : Qubits} → x ≡ Two p q → r ≡ 2 ^ (3 * p + 1) → s ≡ 2 ^ (3 * q + 1)
+pub middles_two : {p q r s : ℕ} {x : Shape} → x ≡ Two p q → r ≡ 2 ^ (3 * p + 1) → s ≡ 2 ^ (3 * q + 1)
     → r + s ≡ middles (qubit_list x)
 unfolding middles
 middles_two m e f = rw m (omega arith)
 
-pub below_one : {q : ℕ} (x : Qubits) → AllBelowEight x → x ≡ One q → q < most_qubits
+pub below_one : {q : ℕ} (x : Shape) → AllBelowEight x → x ≡ One q → q < most_qubits
 below_one x b e = subst AllBelowEight e b
 
-pub below_first : {p q : ℕ} (x : Qubits) → AllBelowEight x → x ≡ Two p q → p < most_qubits
+pub below_first : {p q : ℕ} (x : Shape) → AllBelowEight x → x ≡ Two p q → p < most_qubits
 below_first x b e = (subst AllBelowEight e b).0
 
-pub below_second : {p q : ℕ} (x : Qubits) → AllBelowEight x → x ≡ Two p q → q < most_qubits
+pub below_second : {p q : ℕ} (x : Shape) → AllBelowEight x → x ≡ Two p q → q < most_qubits
 below_second x b e = (subst AllBelowEight e b).1
 
 -- bits of a sum of powers of two
@@ -119,32 +112,32 @@ pub placed_allowed : (g : Gate) → Placed most_qubits g → QubitsInRange g
 placed_allowed g p = let b = below (shape g) p in record { one = b.0; two = b.1 }
   where
     below : (x : Shape) → PlacedOn most_qubits x → (first_qubit_on x < most_qubits) × (second_qubit_on x < most_qubits)
-    below (shapes.One q) p = (p, p)
-    below (shapes.Two a b) p = (p.0, p.1.0)
+    below (One q) p = (p, p)
+    below (Two a b) p = (p.0, p.1.0)
 
 -- with more qubits it stands as well
 pub placed_more : {m n : ℕ} (g : Gate) → m ≤ n → Placed m g → Placed n g
 placed_more {m} {n} g l p = on (shape g) p
   where
     on : (x : Shape) → PlacedOn m x → PlacedOn n x
-    on (shapes.One q) p = omega arith
-    on (shapes.Two a b) p = (omega arith, (omega arith, p.1.1))
+    on (One q) p = omega arith
+    on (Two a b) p = (omega arith, (omega arith, p.1.1))
 
 -- its indices are below those of n qubits
 pub placed_fits : (d n : ℕ) (g : Gate) → 3 * n ≤ d → Placed n g → GateBelow d g
 placed_fits d n g l p = on (shape g) p
   where
     on : (x : Shape) → PlacedOn n x → ShapeBelow d x
-    on (shapes.One q) p = omega arith
-    on (shapes.Two a b) p = (omega arith, omega arith)
+    on (One q) p = omega arith
+    on (Two a b) p = (omega arith, omega arith)
 
 -- its qubits are in rising order, and fit into d indices
 pub gate_rising : (d n : ℕ) (g : Gate) → 3 * n ≤ d → Placed n g → Rising d 0 (qubits g)
 gate_rising d n g l p = on (shape g) p
   where
     on : (x : Shape) → PlacedOn n x → Rising d 0 (qubits_on x)
-    on (shapes.One q) p = (omega arith, omega arith, tt)
-    on (shapes.Two a b) p = (omega arith, omega arith, (omega (arith, p.1.1), omega arith, tt))
+    on (One q) p = (omega arith, omega arith, tt)
+    on (Two a b) p = (omega arith, omega arith, (omega (arith, p.1.1), omega arith, tt))
 
 pub placed_fit : (n : ℕ) (gs : List Gate) → n ≤ most_qubits → AllPlaced n gs → AllFit index_count gs
 placed_fit n [] l p = tt

@@ -1,11 +1,12 @@
 -- What a call does and answers: as the tally's.
-use Rattle.std.specs.Prelude.{List, ◌≡◌, ℕ}
+use Rattle.std.specs.Prelude.{List, ◌≡◌, ℕ, Result}
 use Rattle.diagram.specs.Node.{capacity}
 use Rattle.text.specs.Answer.{SmallAnswer}
-use Rattle.text.specs.Session.{at_most, answer}
+use Rattle.text.specs.Session.{at_most, answer, answer_read}
 use Rattle.text.specs.Engine.{Contents, contents, Reply, reply, Forgotten, FullForgets, tally_of, RefusedUnchanged}
 use Rattle.text.specs.Engine.{EngineInvariant}
 use Rattle.text.specs.declared.call.Call.{Call}
+use Rattle.text.specs.declared.call.Refusal.{Refusal}
 use Rattle.text.specs.declared.answer.Answer.{Answer}
 use Rattle.text.specs.declared.engine.Engine.{Engine}
 use Rattle.text.specs.declared.call.Call.TheVariants as call
@@ -24,7 +25,6 @@ Forgets (call.At a v) = FullForgets
 Forgets (call.Cmp a b) = FullForgets
 Forgets (call.On a) = FullForgets
 Forgets (call.Lows d a m) = FullForgets
-Forgets (call.Refused why) = λ c' r. Unit {0}
 
 -- The call answers as the tally's does, and leaves what the tally's leaves.
 pub record RespondEnsures (c' s s' : List ℕ) (e : Contents) (x : Call) (r : Reply) : Type 0 where
@@ -34,7 +34,18 @@ pub record RespondEnsures (c' s s' : List ℕ) (e : Contents) (x : Call) (r : Re
   pub refused : RefusedUnchanged s s' e r
   pub forgets : Forgets x c' r
 
+-- The line that was read is answered as the tally's is.
+pub record ReplyEnsures (c' s s' : List ℕ) (e : Contents) (x : Result Call Refusal) (r : Reply) : Type 0 where
+  pub invariant : EngineInvariant c' s' r.engine
+  pub small : SmallAnswer r.answer
+  pub is : answer_read (at_most (capacity s)) x (tally_of s e) ≡ (r.answer, tally_of s' r.engine)
+  pub refused : RefusedUnchanged s s' e r
+
 -- the same, of an engine e before the call and e' after it
 abbrev pub Responds : Engine → Engine → Call → Answer → Type 0
 Responds e e' x a = RespondEnsures e'.diagram.now.cache.now e.diagram.now.store.now e'.diagram.now.store.now (contents e) x
+    (reply a e')
+
+abbrev pub Replies : Engine → Engine → Result Call Refusal → Answer → Type 0
+Replies e e' x a = ReplyEnsures e'.diagram.now.cache.now e.diagram.now.store.now e'.diagram.now.store.now (contents e) x
     (reply a e')

@@ -1,7 +1,6 @@
 -- Laws of Respond: the operands, and the refusals in order.
-use Rattle.std.specs.Prelude.{Some, Result}
-use Rattle.std.specs.Prelude as prelude
-use Rattle.std.specs.Prelude.{◌≡◌, ◌≢◌, Bool, false, cond, ◌-◌, ℕ, ◌<◌, set}
+use Rattle.std.specs.Prelude.{◌≡◌, ◌≢◌, Bool, false, cond, ◌-◌, ℕ, ◌<◌, set, Result, Some}
+use Rattle.std.specs.Prelude.{Ok as Read, Err as Refused}
 use Rattle.std.proofs.Common.{subst, ◌∙◌, arith}
 use Rattle.std.proofs.Math.Path.{sym, ap, refl}
 use mathlib.Core.List.{List}
@@ -22,13 +21,13 @@ use Rattle.diagram.specs.Compare.{ComparisonMeans, compared, CompareEnsures}
 use Rattle.diagram.specs.CompareLaws.{compared_means}
 use Rattle.diagram.specs.Collect.{CollectEnsures}
 use Rattle.diagram.specs.Support.{support_mask}
-use Rattle.text.specs.Call.{InRange, refusal_number}
+use Rattle.text.specs.Call.{InRange, Ranged, refusal_number}
 use Rattle.text.specs.Answer.{is_no, SmallAnswer}
 use Rattle.text.specs.Session.{TallyReply, refuse, with_tensor, with_register, at_most, answer, settle, comparison}
 use Rattle.text.specs.Session.{node_count, accept}
 use Rattle.text.specs.Engine.{Contents, Reply, EngineInvariant, tally_of, FullForgets, SetsRegister, SettleEnsures}
 use Rattle.text.specs.Operate.{SetsUnless}
-use Rattle.text.specs.Respond.{RespondEnsures, Forgets}
+use Rattle.text.specs.Respond.{RespondEnsures, ReplyEnsures, Forgets}
 use Rattle.text.specs.EngineLaws.{sets_register_constant, sets_register_step, never_full}
 use Rattle.text.specs.declared.call.Call.{Call}
 use Rattle.diagram.specs.declared.node.Edge.{Edge}
@@ -52,6 +51,14 @@ ranged_as y r e = subst InRange e r
 pub responds_as : {c' s s' : List ℕ} {e : Contents} {x y : Call} {r : Reply} → y ≡ x → RespondEnsures c' s s' e x r
     → RespondEnsures c' s s' e y r
 responds_as {c'} {s} {s'} {e} {r = r} q h = subst (λ z. RespondEnsures c' s s' e z r) (sym q) h
+
+pub reply_call : {c' s s' : List ℕ} {e : Contents} {x : Result Call Refusal} {y : Call} {r : Reply} → x ≡ Read y
+    → RespondEnsures c' s s' e y r
+    → ReplyEnsures c' s s' e x r
+reply_call q h = record { invariant = h.invariant; small = h.small; is = rw q h.is; refused = h.refused }
+
+pub read_ranged : {x : Result Call Refusal} {y : Call} → Ranged x → x ≡ Read y → InRange y
+read_ranged h q = rw q at h
 
 -- an operand
 
@@ -104,10 +111,16 @@ module _ {c s : List ℕ} {e : Contents} (p : EngineInvariant c s e) where
       → RespondEnsures c s s e x (refused_by Empty e)
   refused_empty forgets q = respond_refused Empty (forgets (refused_forgets e Empty (λ z. omega arith))) q
 
-  pub refused_line : {x : Call} {why : Refusal} → x ≡ call.Refused why
-      → RespondEnsures c s s e x (record { answer = No why; engine = e })
-  unfolding answer
-  refused_line {why = why} q = respond_refused why (rw q tt) (rw q)
+  -- the reader refused
+  pub reply_refused : {x : Result Call Refusal} {why : Refusal} → x ≡ Refused why
+      → ReplyEnsures c s s e x (record { answer = No why; engine = e })
+  unfolding refuse
+  reply_refused q = record {
+    invariant = p;
+    small = tt;
+    is = rw q refl;
+    refused = λ no. record { nodes = refl; registers = refl };
+  }
 
   module _ {a : ℕ} {h : Register} (g : GetEnsures e.registers.all a h) (q : h ≡ empty_register) where
     pub empty_add : {d b : ℕ} → RespondEnsures c s s e (call.Add d a b) (record { answer = No Empty; engine = e })
@@ -177,7 +190,7 @@ module _ {c' s s' : List ℕ} {e : Contents} {d : ℕ} {r : Reply} where
 
   module _ {c : List ℕ} (p : EngineInvariant c s e) where
     pub responds_put : {w : ℕ} → w < modulus
-        → SettleEnsures c s c' s' e e.state d (prelude.Ok (record { weight = w; node = 0 })) r
+        → SettleEnsures c s c' s' e e.state d (Read (record { weight = w; node = 0 })) r
         → RespondEnsures c' s s' e (call.Put d w) r
     unfolding answer return tally_of
     responds_put {w} small h =

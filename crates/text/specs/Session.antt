@@ -3,7 +3,7 @@
 -- and nothing that the engine holds or answers." d is the number of indices: 24 in the engine, fewer where the checker
 -- computes a session.
 use Rattle.std.specs.Prelude.{Bool, true, cond, List, [], ◌++◌, ◌∷◌, ℕ, ◌-◌, suc, ◌+◌, leb, replicate, length, set}
-use Rattle.std.specs.Prelude.{get_or}
+use Rattle.std.specs.Prelude.{get_or, Result, Ok as Read, Err as Refused}
 use Rattle.std.proofs.Math.Option.{Option, none, some}
 use Rattle.diagram.specs.Tensor.{Tensor, bits, value, constant, depends}
 use Rattle.diagram.specs.Tally.{Set, sum, cont, low, build, collect, filled_tensors}
@@ -111,8 +111,11 @@ answer c (call.On a) t = with_register t a (λ A. (Mask (support_mask A), t))
 -- "`lows d a m` lowers every index of the set m at the same moment. .. A clash is 7, in the place that `low` has it"
 answer c (call.Lows r a m) t =
     with_register t a (λ A. cond (clash (bits m) A) (refuse Depends t) (settle c r (lows (bits m) A t.nodes) t))
--- what the line's reader refused
-answer c (call.Refused r) t = refuse r t
+
+-- what a line does and answers: its call's, or what its reader refused
+abbrev pub answer_read : {d : ℕ} → Capacity → Result Call Refusal → Tally d → TallyReply d
+answer_read c (Read x) t = answer c x t
+answer_read c (Refused r) t = refuse r t
 
 -- the run so far: "the code (0 or 9), lines answered, bytes written, the node count and the sixteen registers"
 pub record TallyRun (d : ℕ) : Type 0 where
@@ -137,7 +140,7 @@ unfoldable pub run : {d : ℕ} → Capacity → ℕ → List (List ℕ) → Tall
 run c room [] r = r
 run c room (line ∷ ls) r =
     cond (leb (length r.output + answer_room) room)
-    (run c room ls (with_answer r (answer c (read_line line) r.tally)))
+    (run c room ls (with_answer r (answer_read c (read_line line) r.tally)))
     (stopped_run r)
 
 -- "A text is split at LF": the session of a text, over a store of this capacity and an output of `room` bytes

@@ -1,5 +1,6 @@
 -- Laws of Session: lines after lines, refused calls, and what fits the capacity.
 use Rattle.std.specs.Prelude.{◌≡◌, Bool, ℕ, ◌+◌, ◌-◌, ◌≤◌, suc, length, get_or}
+use Rattle.std.specs.Prelude.{Result, Ok as Read, Err as Refused}
 use Rattle.std.proofs.Math.Path.{refl, sym}
 use Rattle.std.proofs.Math.Bool.{true, false, cond}
 use Rattle.std.proofs.lemmas.Bool.{false≢true}
@@ -15,10 +16,12 @@ use Rattle.text.specs.Text.{Bytes}
 use Rattle.text.specs.Limits.{answer_room}
 use Rattle.text.specs.Line.{read_line}
 use Rattle.text.specs.Answer.{is_no}
-use Rattle.text.specs.Session.{Capacity, answer, TallyRun, with_answer, stopped_run, run, Tally, TallyReply, fits}
+use Rattle.text.specs.Session.{Capacity, answer, answer_read, TallyRun, with_answer, stopped_run, run, Tally}
+use Rattle.text.specs.Session.{TallyReply, fits}
 use Rattle.text.specs.Session.{accept, refuse, settle, with_tensor, with_register, at_most, unlimited, node_count}
 use Rattle.text.specs.declared.call.Refusal.TheVariants.{Full, Depends}
 use Rattle.text.specs.declared.call.Call.{Call}
+use Rattle.text.specs.declared.call.Refusal.{Refusal}
 use Rattle.text.specs.declared.answer.Answer.TheVariants.{Ok}
 use Rattle.text.specs.declared.call.Call.TheVariants as call
 
@@ -36,13 +39,13 @@ module _ {d : ℕ} (c : Capacity) (room : ℕ) where
   run_append [] ls r = refl
   run_append (k ∷ ks) ls r =
       go (leb (length r.output + answer_room) room) refl
-      (run_append ks ls (with_answer r (answer c (read_line k) r.tally)))
+      (run_append ks ls (with_answer r (answer_read c (read_line k) r.tally)))
     where
       go : (b : Bool) → leb (length r.output + answer_room) room ≡ b
-          → run c room (ks ++ ls) (with_answer r (answer c (read_line k) r.tally))
-          ≡ run c room ls (run c room ks (with_answer r (answer c (read_line k) r.tally)))
-          → cond b (run c room (ks ++ ls) (with_answer r (answer c (read_line k) r.tally))) (stopped_run r)
-          ≡ run c room ls (cond b (run c room ks (with_answer r (answer c (read_line k) r.tally))) (stopped_run r))
+          → run c room (ks ++ ls) (with_answer r (answer_read c (read_line k) r.tally))
+          ≡ run c room ls (run c room ks (with_answer r (answer_read c (read_line k) r.tally)))
+          → cond b (run c room (ks ++ ls) (with_answer r (answer_read c (read_line k) r.tally))) (stopped_run r)
+          ≡ run c room ls (cond b (run c room ks (with_answer r (answer_read c (read_line k) r.tally))) (stopped_run r))
       go true e ih = ih
       go false e ih = sym (stopped_stays ls r e)
 
@@ -91,7 +94,6 @@ module _ {d : ℕ} (c : Capacity) (t : Tally d) where
   refused_leaves (call.Cmp a b) = kept_register a _ (λ A. kept_register b _ (λ B e. refl))
   refused_leaves (call.On a) = kept_register a _ (λ A e. refl)
   refused_leaves (call.Lows r a m) = kept_register a _ (λ A. kept_unless (clash (bits m) A) r _)
-  refused_leaves (call.Refused r) = λ e. refl
 
 -- The tally's set never exceeds the capacity, so `put`, which puts nothing in, is never refused as full.
 
@@ -150,7 +152,11 @@ module _ {d : ℕ} (c : Capacity) (t : Tally d) (h : fits c (node_count t) ≡ t
   answer_fits (call.Cmp a b) = fit_register a _ (λ A. fit_register b _ (λ B. h))
   answer_fits (call.On a) = fit_register a _ (λ A. h)
   answer_fits (call.Lows r a m) = fit_register a _ (λ A. fit_unless (clash (bits m) A) r _)
-  answer_fits (call.Refused r) = h
+
+  pub read_fits : (x : Result Call Refusal) → fits c (node_count (answer_read c x t).1) ≡ true
+  unfolding refuse
+  read_fits (Read x) = answer_fits x
+  read_fits (Refused r) = h
 
   -- "`put d w` .. Refuses 1, 2, 4."
   pub put_accepted : (r w : ℕ) → (answer c (call.Put r w) t).0 ≡ Ok (node_count t)
@@ -164,10 +170,11 @@ unfolding run with_answer stopped_run
 run_fits c room [] r h = h
 run_fits c room (l ∷ ls) r h =
     go (leb (length r.output + answer_room) room)
-    (run_fits c room ls (with_answer r (answer c (read_line l) r.tally)) (answer_fits c r.tally h (read_line l)))
+    (run_fits c room ls (with_answer r (answer_read c (read_line l) r.tally)) (read_fits c r.tally h (read_line l)))
   where
-    go : (b : Bool) → fits c (node_count (run c room ls (with_answer r (answer c (read_line l) r.tally))).tally) ≡ true
-        → fits c (node_count (cond b (run c room ls (with_answer r (answer c (read_line l) r.tally)))
+    go : (b : Bool)
+        → fits c (node_count (run c room ls (with_answer r (answer_read c (read_line l) r.tally))).tally) ≡ true
+        → fits c (node_count (cond b (run c room ls (with_answer r (answer_read c (read_line l) r.tally)))
         (stopped_run r)).tally) ≡ true
     go true p = p
     go false p = h

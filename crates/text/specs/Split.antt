@@ -1,6 +1,6 @@
 -- The parts of a text as the code finds them.
 use Rattle.std.specs.Prelude.{cond, [], ◌∷◌, List, ◌≡◌, ℕ, ◌-◌, suc, ◌+◌, ◌≤◌, take, drop, length, eqb}
-use Rattle.text.specs.Text.{Bytes, fields, same_bytes}
+use Rattle.text.specs.Text.{Bytes, fields}
 
 -- the part of a text from a to e, `&s[a..e]`
 abbrev pub part : Bytes → ℕ → ℕ → Bytes
@@ -29,16 +29,3 @@ after_tab (x ∷ s) = fields s
 -- the fields after the one that ends at e
 unfoldable pub fields_after : Bytes → ℕ → List Bytes
 fields_after s e = after_tab (drop e s)
-
--- Looking for the end: the bytes from a to i have been passed.
-pub record EndLoop (b : ℕ) (s : Bytes) (a i : ℕ) : Type 0 where
-  pub from : a ≤ i
-  pub within : i ≤ length s
-  pub same : end_from b s i ≡ end_from b s a
-
--- `same` has found the first i of n bytes equal
-pub record SameLoop (s t : Bytes) (n i : ℕ) : Type 0 where
-  pub within : i ≤ n
-  pub left : n ≡ length s
-  pub right : n ≡ length t
-  pub same : same_bytes (drop i s) (drop i t) ≡ same_bytes s t

@@ -1,12 +1,22 @@
--- Laws of Split: lines and fields, one after the other; two texts compared byte by byte.
+-- Laws of Split: lines and fields, one after the other.
 use Rattle.std.specs.Prelude.{◌≡◌, refl, List, ◌∷◌, [], ◌++◌, Bool, true, false, cond, ℕ, ◌+◌, ◌-◌, ◌≤◌, zero, suc, ◌<◌}
-use Rattle.std.specs.Prelude.{drop, take, get_or, length, eqb}
+use Rattle.std.specs.Prelude.{drop, take, get_or, length, eqb, ltb, Option, Some, None}
+use Rattle.std.proofs.lemmas.List.Recursion.{is_position_or_len}
+use Rattle.std.specs.List.{position_or_len, slice_split, onto_first}
+use Rattle.std.specs.Option.{unwrap_or}
+use Rattle.std.specs.Fn.{CalledAt}
+use Rattle.std.specs.Slice.Iter.{split_rest, split_done, split_callee, split_steps}
+use Rattle.std.proofs.lemmas.Iterator.{YieldsList}
+use Rattle.std.proofs.lemmas.Iterator.Consumers.{YieldsList-at}
+use Rattle.std.proofs.lemmas.Iterator.Splits.{YieldsList-from_slice_split}
+use denote.Param.Members.{Mut}
+use denote.Ref.{Bor}
 use Rattle.std.proofs.Common.{ap, sym, ◌∙◌, arith, add-one, drop_of_length-le, length-drop, drop-drop, drop-cons}
-use Rattle.std.proofs.Common.{take_all, eq-eqb, ne_eqb}
-use Rattle.std.proofs.Math.Bool.{and-false}
+use Rattle.std.proofs.Common.{take_all}
+use borrow.Author.Tests.{lt-ltb, le-ltb}
 use Rattle.std.proofs.Math.Decide.{dec_lt}
 use Rattle.text.specs.Text.{Bytes, onto, parts, fields, tab, LF, lines, same_bytes}
-use Rattle.text.specs.Split.{count_before, end_from, EndLoop, Ends, part, after_tab, fields_after, SameLoop}
+use Rattle.text.specs.Split.{count_before, end_from, Ends, part, after_tab, fields_after}
 
 -- lists taken apart
 
@@ -44,34 +54,6 @@ get_or_next (suc n) (y ∷ l) d e = get_or_next n l d e
 
 pub drop_one : {A : Type 0} (n : ℕ) (l : List A) {x : A} {xs : List A} → drop n l ≡ x ∷ xs → drop (n + 1) l ≡ xs
 drop_one n l e = rw (← drop-drop 1 n l, e)
-
-end_here : (b : ℕ) (s : Bytes) (i : ℕ) → i < length s → get_or s i 0 ≡ b → end_from b s i ≡ i
-unfolding end_from count_before
-end_here b s i h e = rw (drop-cons s i 0 h, eq-eqb (get_or s i 0) b e) (omega arith)
-
-end_on : (b : ℕ) (s : Bytes) (i : ℕ) → i < length s → (get_or s i 0 ≡ b → ⊥) → end_from b s i ≡ end_from b s (i + 1)
-unfolding end_from count_before
-end_on b s i h e = rw (drop-cons s i 0 h, ne_eqb (get_or s i 0) b e, add-one i) (omega arith)
-
-end_last : (b : ℕ) (s : Bytes) (i : ℕ) → length s ≤ i → end_from b s i ≡ i
-unfolding end_from count_before
-end_last b s i h = rw (drop_of_length-le s h) (omega arith)
-
-pub end_loop_start : {b : ℕ} {s : Bytes} {a : ℕ} → a ≤ length s → EndLoop b s a a
-end_loop_start h = record { from = omega arith; within = h; same = refl }
-
-pub end_loop_next : {b : ℕ} {s : Bytes} {a i : ℕ} → EndLoop b s a i → i < length s → (get_or s i 0 ≡ b → ⊥)
-    → EndLoop b s a (i + 1)
-end_loop_next {b} {s} {a} {i} r h e =
-    record { from = omega arith; within = omega arith; same = sym (end_on b s i h e) ∙ r.same }
-
-pub end_loop_here : {b : ℕ} {s : Bytes} {a i : ℕ} → EndLoop b s a i → i < length s → get_or s i 0 ≡ b → Ends b s a i
-end_loop_here {b} {s} {a} {i} r h e =
-    record { place = sym (end_here b s i h e) ∙ r.same; from = r.from; within = r.within }
-
-pub end_loop_end : {b : ℕ} {s : Bytes} {a i : ℕ} → EndLoop b s a i → length s ≤ i → Ends b s a i
-end_loop_end {b} {s} {a} {i} r h =
-    record { place = sym (end_last b s i h) ∙ r.same; from = r.from; within = r.within }
 
 -- The first part of a text: up to the first b, or the whole text.
 
@@ -124,6 +106,27 @@ unfolding end_from
 ends_from b s a h =
     record { place = refl; from = omega arith; within = omega (arith, upto_most b (drop a s), length-drop a s) }
 
+-- std's search for the first byte b finds it
+count_position : (b : ℕ) (s : Bytes) → count_before b s ≡ position_or_len (λ x. eqb x b) s
+unfolding count_before
+count_position b =
+    is_position_or_len (count_before b) (λ x. eqb x b) refl
+    (λ x s. ap (cond (eqb x b) 0) {x = suc (count_before b s)} {y = 1 + count_before b s} (omega arith))
+
+pub ends_at : {b : ℕ} {s : Bytes} {a : ℕ} {r : Option ℕ} → a ≤ length s
+    → r ≡ cond (ltb (position_or_len (λ x. eqb x b) (drop a s)) (length (drop a s)))
+    (Some (position_or_len (λ x. eqb x b) (drop a s))) None
+    → Ends b s a (a + unwrap_or r (length (drop a s)))
+unfolding end_from
+ends_at {b} {s} {a} {r} h e =
+    let most = upto_most b (drop a s) in
+    let place : unwrap_or r (length (drop a s)) ≡ count_before b (drop a s) =
+    rw (e, ← count_position b (drop a s)) (found (count_before b (drop a s)) (length (drop a s)) most) in
+    record { place = rw place; from = omega arith; within = rw place (omega (arith, most, length-drop a s)) }
+  where
+    found : (n m : ℕ) → n ≤ m → unwrap_or (cond (ltb n m) (Some n) None) m ≡ n
+    found n m h = elim (dec_lt n m) [ yes p ↦ rw (lt-ltb n m p) | no p ↦ rw (le-ltb n m (omega arith)) (omega arith) ]
+
 -- the part that begins at a, where it ends before the text's end
 parts_at : {b : ℕ} {s : Bytes} {a e : ℕ} (none : List Bytes) → Ends b s a e → e < length s
     → parts b none (drop a s) ≡ part s a e ∷ parts b none (drop (e + 1) s)
@@ -143,13 +146,46 @@ parts_end {b} {s} {a} {e} none o r h n =
     rw (take_all (e - a) (drop a s) (omega (arith, length-drop a s)))
     (parts_whole b none o (drop a s) (omega (arith, length-drop a s)) (omega (arith, length-drop a s)))
 
+-- the part at the front, `&s[..e]`
+pub part_front : (s : Bytes) (e : ℕ) → part s 0 e ≡ take e s
+part_front s e = let z : e - 0 ≡ e = omega arith in rw z
+
+-- a part is a word, as `==` says it
+pub same_word : (s : Bytes) {w x : Bytes} {b : Bool} → b ≡ same_bytes s x → x ≡ w → same_bytes s w ≡ b
+same_word s p q = sym (rw q at p)
+
 pub rest_none : (s : Bytes) (e : ℕ) → length s ≤ e → fields_after s e ≡ []
 unfolding fields_after after_tab
 rest_none s e h = rw (drop_of_length-le s h)
 
-rest_more : (s : Bytes) (e : ℕ) → e < length s → fields_after s e ≡ fields (drop (e + 1) s)
+onto_same : (x : ℕ) (ps : List Bytes) → onto x ps ≡ onto_first x ps
+unfolding onto
+onto_same x [] = refl
+onto_same x (p ∷ ps) = refl
+
+-- the parts that std's `split` gives are the fields
+pub fields_split : (s : Bytes) → fields s ≡ slice_split (λ x. eqb x tab) s
+unfolding fields parts
+fields_split [] = refl
+fields_split (x ∷ s) = rw (← fields_split s, ← onto_same x (fields s))
+
+pub rest_more : (s : Bytes) (e : ℕ) → e < length s → fields_after s e ≡ fields (drop (e + 1) s)
 unfolding fields_after after_tab
 rest_more s e h = rw (add-one e, drop-cons s e 0 h)
+
+-- what std's `split` at tabs yields of the bytes after the field that ends at e
+pub fields_yielded : {F : Type 0} {s t : _} (g : Mut F (Bor ℕ × Unit {0}) Bool) {f : F} (l : Bytes) (e : ℕ)
+    → e < length l
+    → t ≡ s
+    → split_rest s ≡ take (length l - (e + 1)) (drop (e + 1) l)
+    → split_done s ≡ false
+    → split_callee s ≡ f
+    → ((x : ℕ) (b : Bool) (q : F) → CalledAt g f x b q → (q ≡ f) × (b ≡ eqb x tab))
+    → YieldsList (split_steps g) (λ x. x.now) t (fields_after l e)
+fields_yielded g l e h q r d k o =
+    let whole = take_all (length l - (e + 1)) (drop (e + 1) l) (omega (arith, length-drop (e + 1) l)) in
+    rw (rest_more l e h, fields_split (drop (e + 1) l))
+    (YieldsList-at q (YieldsList-from_slice_split g (λ x. eqb x tab) (drop (e + 1) l) (r ∙ whole) d k o))
 
 -- The fields from a on are the one that begins there and those after it.
 pub fields_first : {s : Bytes} {a e : ℕ} → a ≤ length s → Ends tab s a e
@@ -204,44 +240,3 @@ lines_count (x ∷ s) = go (eqb x LF) (lines_count s)
         → length (cond t ([] ∷ parts LF [] s) (onto x (parts LF [] s))) ≤ suc (length s)
     go true h = omega arith
     go false h = omega (arith, onto_length x (parts LF [] s))
-
-pub same_lengths : (s t : Bytes) → (length s ≡ length t → ⊥) → same_bytes s t ≡ false
-unfolding same_bytes
-same_lengths [] [] h = absurd (h refl)
-same_lengths [] (y ∷ t) h = refl
-same_lengths (x ∷ s) [] h = refl
-same_lengths (x ∷ s) (y ∷ t) h = rw (same_lengths s t (λ e. h (ap suc e))) (and-false (eqb x y))
-
-same_on : (s t : Bytes) (i : ℕ) → i < length s → i < length t → get_or s i 0 ≡ get_or t i 0
-    → same_bytes (drop i s) (drop i t) ≡ same_bytes (drop (i + 1) s) (drop (i + 1) t)
-unfolding same_bytes
-same_on s t i p q e = rw (drop-cons s i 0 p, drop-cons t i 0 q, eq-eqb (get_or s i 0) (get_or t i 0) e, add-one i)
-
-same_not : (s t : Bytes) (i : ℕ) → i < length s → i < length t → (get_or s i 0 ≡ get_or t i 0 → ⊥)
-    → same_bytes (drop i s) (drop i t) ≡ false
-unfolding same_bytes
-same_not s t i p q e = rw (drop-cons s i 0 p, drop-cons t i 0 q, ne_eqb (get_or s i 0) (get_or t i 0) e)
-
-same_end : (s t : Bytes) (i : ℕ) → length s ≤ i → length t ≤ i → same_bytes (drop i s) (drop i t) ≡ true
-unfolding same_bytes
-same_end s t i p q = rw (drop_of_length-le s p, drop_of_length-le t q)
-
-pub same_loop_start : {s t : Bytes} {n : ℕ} → n ≡ length s → n ≡ length t → SameLoop s t n 0
-same_loop_start p q = record { within = omega arith; left = p; right = q; same = refl }
-
-pub same_loop_next : {s t : Bytes} {n i : ℕ} → SameLoop s t n i → i < n → get_or s i 0 ≡ get_or t i 0
-    → SameLoop s t n (i + 1)
-same_loop_next {s} {t} {n} {i} r h e =
-    record {
-      within = omega arith;
-      left = r.left;
-      right = r.right;
-      same = sym (same_on s t i (omega arith) (omega arith) e) ∙ r.same;
-    }
-
-pub same_loop_not : {s t : Bytes} {n i : ℕ} → SameLoop s t n i → i < n → (get_or s i 0 ≡ get_or t i 0 → ⊥)
-    → false ≡ same_bytes s t
-same_loop_not {s} {t} {n} {i} r h e = sym (same_not s t i (omega arith) (omega arith) e) ∙ r.same
-
-pub same_loop_end : {s t : Bytes} {n i : ℕ} → SameLoop s t n i → n ≤ i → true ≡ same_bytes s t
-same_loop_end {s} {t} {n} {i} r h = sym (same_end s t i (omega arith) (omega arith)) ∙ r.same

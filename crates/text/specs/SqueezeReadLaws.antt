@@ -1,5 +1,6 @@
 -- A long line reads as its squeezed one.
 use Rattle.std.specs.Prelude.{◌≡◌, ◌≢◌, Bool, true, false, cond, take, length, eqb, ltb}
+use Rattle.std.specs.Prelude.{Option, Some, None, Result}
 use Rattle.std.proofs.Math.Path.{refl, sym, ap}
 use Rattle.std.proofs.Common.{◌∙◌, arith, take_all, length-take-le}
 use mathlib.Core.List.{◌∷◌, List, []}
@@ -7,22 +8,22 @@ use Prim.Native.Nat.{ℕ, suc, ◌-◌, ◌≤◌, ◌<◌, zero, ◌+◌}
 use Rattle.std.proofs.Math.Decide.{ℕ_discrete, dec_lt}
 use borrow.Author.Tests.{eq-eqb, ne_eqb, lt-ltb, le-ltb, ltb-true}
 use Rattle.std.proofs.Math.Seq.{take-nil}
-use Rattle.text.specs.Text.{Bytes, tab, onto, parts, fields, same_bytes, bytes}
+use Rattle.text.specs.Text.{Bytes, tab, onto, parts, fields, same_bytes, bytes, known}
 use Rattle.text.specs.Limits.{most_digits}
 use Rattle.text.specs.Number.{number_of}
 use Rattle.text.specs.Words.{word_of}
 use Rattle.text.specs.Args.{push_number, numbers, by_count}
-use Rattle.text.specs.Names.{choose_name, one_qubit, two_qubits}
-use Rattle.text.specs.Call.{call_of}
+use Rattle.text.specs.Names.{one_qubit, two_qubits}
+use Rattle.text.specs.Call.{call_of, malformed}
 use Rattle.text.specs.Gate.{gate_call_of, gate_call_fields}
 use Rattle.text.specs.Line.{call_fields, read_line}
 use Rattle.text.specs.Squeeze.{squeezed_from, trimmed, squeezed}
 use Rattle.text.specs.NumberLaws.{number_long}
 use Rattle.text.specs.declared.args.Args.{Args}
-use Rattle.text.specs.declared.args.Args.TheVariants.{Wrong, None, One, Two, Three, Four}
-use Rattle.text.specs.declared.number.Number.{Number}
+use Rattle.text.specs.declared.args.Args.TheVariants.{Zero, One, Two, Three, Four}
+use Rattle.text.specs.declared.call.Call.{Call}
+use Rattle.text.specs.declared.call.Refusal.{Refusal}
 use Rattle.text.specs.declared.words.Word.{Word}
-use Rattle.text.specs.declared.number.Number.TheVariants as number
 
 -- One byte: a tab after one of the first five fields, a later tab, a byte of a field, one too many.
 
@@ -146,7 +147,6 @@ squeezed_fields s = from_fields s 0 0 (omega arith) ∙ trimmed_next 5 (fields s
 -- A field cut reads as the field does.
 
 same_cut : (n : ℕ) (s t : Bytes) → length t < n → same_bytes (take n s) t ≡ same_bytes s t
-unfolding same_bytes
 same_cut zero s t h = absurd (omega arith)
 same_cut (suc n) [] t h = refl
 same_cut (suc n) (x ∷ s) [] h = refl
@@ -170,26 +170,26 @@ number_cut s =
 
 -- More numbers than a call has are malformed, so the fields after six do not matter.
 
--- how many numbers there are; Wrong is refused as five are, which no call has
-abbrev arg_count : Args → ℕ
-arg_count Wrong = 5
-arg_count None = 0
-arg_count (One a) = 1
-arg_count (Two a b) = 2
-arg_count (Three a b c) = 3
-arg_count (Four a b c d) = 4
+-- how many numbers there are; none are refused as five are, which no call has
+abbrev arg_count : Option Args → ℕ
+arg_count None = 5
+arg_count (Some Zero) = 0
+arg_count (Some (One a)) = 1
+arg_count (Some (Two a b)) = 2
+arg_count (Some (Three a b c)) = 3
+arg_count (Some (Four a b c d)) = 4
 
-count_with : (args : Args) (x : Number) (m k : ℕ) → m ≤ 5 → m ≤ arg_count args + suc k
+count_with : (args : Option Args) (x : Option ℕ) (m k : ℕ) → m ≤ 5 → m ≤ arg_count args + suc k
     → m ≤ arg_count (push_number args x) + k
-count_with args number.Malformed m k p h = omega arith
-count_with Wrong (number.Of v) m k p h = omega arith
-count_with None (number.Of v) m k p h = omega arith
-count_with (One a) (number.Of v) m k p h = omega arith
-count_with (Two a b) (number.Of v) m k p h = omega arith
-count_with (Three a b c) (number.Of v) m k p h = omega arith
-count_with (Four a b c d) (number.Of v) m k p h = omega arith
+count_with None x m k p h = omega arith
+count_with (Some args) None m k p h = omega arith
+count_with (Some Zero) (Some v) m k p h = omega arith
+count_with (Some (One a)) (Some v) m k p h = omega arith
+count_with (Some (Two a b)) (Some v) m k p h = omega arith
+count_with (Some (Three a b c)) (Some v) m k p h = omega arith
+count_with (Some (Four a b c d)) (Some v) m k p h = omega arith
 
-count_numbers : (args : Args) (fs : List Bytes) (m : ℕ) → m ≤ 5 → m ≤ arg_count args
+count_numbers : (args : Option Args) (fs : List Bytes) (m : ℕ) → m ≤ 5 → m ≤ arg_count args
     → m ≤ arg_count (numbers most_digits args fs)
 unfolding numbers
 count_numbers args [] m p h = h
@@ -198,9 +198,9 @@ count_numbers args (f ∷ fs) m p h =
     (omega (arith, count_with args (number_of most_digits f) m 0 p (omega arith)))
 
 -- What refuses m or more numbers does not ask for fields after the first n, where those bring the numbers to m.
-module _ {A : Type 0} (says : Args → A) (m : ℕ) (most : m ≤ 5)
-    (same : (x : Args) → m ≤ arg_count x → says x ≡ says Wrong) where
-  numbers_cut : (n : ℕ) (args : Args) (fs : List Bytes) → m ≤ arg_count args + n
+module _ {A : Type 0} (says : Option Args → A) (m : ℕ) (most : m ≤ 5)
+    (same : (x : Option Args) → m ≤ arg_count x → says x ≡ says None) where
+  numbers_cut : (n : ℕ) (args : Option Args) (fs : List Bytes) → m ≤ arg_count args + n
       → says (numbers most_digits args (trimmed n fs)) ≡ says (numbers most_digits args fs)
   unfolding numbers
   numbers_cut n args [] h = refl
@@ -208,49 +208,57 @@ module _ {A : Type 0} (says : Args → A) (m : ℕ) (most : m ≤ 5)
       same args (omega arith)
       ∙ sym (same (numbers most_digits args (f ∷ fs)) (count_numbers args (f ∷ fs) m most (omega arith)))
   numbers_cut (suc n) args (f ∷ fs) h =
-      ap (λ (x : Number). says (numbers most_digits (push_number args x) (trimmed n fs))) (number_cut f)
+      ap (λ (x : Option ℕ). says (numbers most_digits (push_number args x) (trimmed n fs))) (number_cut f)
       ∙ numbers_cut n (push_number args (number_of most_digits f)) fs
       (count_with args (number_of most_digits f) m n most h)
 
-call_wrong : (w : Word) (x : Args) → 5 ≤ arg_count x → call_of w x ≡ call_of w Wrong
-call_wrong w Wrong h = refl
-call_wrong w None h = absurd (omega arith)
-call_wrong w (One a) h = absurd (omega arith)
-call_wrong w (Two a b) h = absurd (omega arith)
-call_wrong w (Three a b c) h = absurd (omega arith)
-call_wrong w (Four a b c d) h = absurd (omega arith)
+abbrev says_call : Option Word → Option Args → Result Call Refusal
+says_call w x = known malformed w (λ w. known malformed x (call_of w))
 
-gate_wrong : (d : Number) (name : Bytes) (x : Args) → 3 ≤ arg_count x
-    → gate_call_of d name x ≡ gate_call_of d name Wrong
+call_wrong : (w : Option Word) (x : Option Args) → 5 ≤ arg_count x → says_call w x ≡ says_call w None
+call_wrong w None h = refl
+call_wrong w (Some Zero) h = absurd (omega arith)
+call_wrong w (Some (One a)) h = absurd (omega arith)
+call_wrong w (Some (Two a b)) h = absurd (omega arith)
+call_wrong w (Some (Three a b c)) h = absurd (omega arith)
+call_wrong w (Some (Four a b c d)) h = absurd (omega arith)
+
+abbrev says_gate : Option ℕ → Bytes → Option Args → Result Call Refusal
+says_gate d name x = known malformed d (λ r. known malformed x (gate_call_of r name))
+
+gate_wrong : (d : Option ℕ) (name : Bytes) (x : Option Args) → 3 ≤ arg_count x
+    → says_gate d name x ≡ says_gate d name None
 unfolding by_count
-gate_wrong number.Malformed name x h = refl
-gate_wrong (number.Of d) name Wrong h = refl
-gate_wrong (number.Of d) name None h = absurd (omega arith)
-gate_wrong (number.Of d) name (One a) h = absurd (omega arith)
-gate_wrong (number.Of d) name (Two a b) h = absurd (omega arith)
-gate_wrong (number.Of d) name (Three a b c) h = refl
-gate_wrong (number.Of d) name (Four a b c d') h = refl
+gate_wrong None name x h = refl
+gate_wrong (Some d) name None h = refl
+gate_wrong (Some d) name (Some Zero) h = absurd (omega arith)
+gate_wrong (Some d) name (Some (One a)) h = absurd (omega arith)
+gate_wrong (Some d) name (Some (Two a b)) h = absurd (omega arith)
+gate_wrong (Some d) name (Some (Three a b c)) h = refl
+gate_wrong (Some d) name (Some (Four a b c d')) h = refl
 
-name_cut : (d : Number) (name : Bytes) → gate_call_of d (take 9 name) ≡ gate_call_of d name
-unfolding one_qubit two_qubits choose_name
-name_cut number.Malformed name = refl
-name_cut (number.Of d) name = simp known_cut
+name_cut : (d : Option ℕ) (name : Bytes) (x : Option Args) → says_gate d (take 9 name) x ≡ says_gate d name x
+unfolding one_qubit two_qubits
+name_cut None name x = refl
+name_cut (Some d) name x = simp known_cut
 
 gate_cut : (fs : List Bytes) → gate_call_fields (trimmed 5 fs) ≡ gate_call_fields fs
 unfolding gate_call_fields
 gate_cut [] = refl
 gate_cut (d ∷ []) = refl
 gate_cut (d ∷ name ∷ qubits) =
-    rw (number_cut d, name_cut (number_of most_digits d) name)
-    (numbers_cut (gate_call_of (number_of most_digits d) name) 3 (omega arith)
+    rw (number_cut d)
+    (name_cut (number_of most_digits d) name (numbers most_digits (Some Zero) (trimmed 3 qubits))
+    ∙ numbers_cut (says_gate (number_of most_digits d) name) 3 (omega arith)
     (gate_wrong (number_of most_digits d) name) 3
-    None qubits (omega arith))
+    (Some Zero) qubits (omega arith))
 
 call_cut : (fs : List Bytes) → call_fields (trimmed 6 fs) ≡ call_fields fs
 unfolding call_fields
 call_cut [] = refl
 call_cut (f ∷ fs) =
-    let args = numbers_cut (call_of (word_of f)) 5 (omega arith) (call_wrong (word_of f)) 5 None fs (omega arith) in
+    let args =
+    numbers_cut (says_call (word_of f)) 5 (omega arith) (call_wrong (word_of f)) 5 (Some Zero) fs (omega arith) in
     rw (known_cut f (bytes "gate") refl, gate_cut fs, word_cut f, args)
 
 pub read_line_squeezed : (s : Bytes) → read_line (squeezed s) ≡ read_line s

@@ -1,5 +1,6 @@
 -- Texts (document 01, "Session calls"): lines and fields. A text is a list of bytes.
-use Rattle.std.specs.Prelude.{List, [], ◌∷◌, Bool, true, false, ◌&&◌, cond, ℕ, eqb}
+use Rattle.std.specs.Prelude.{List, [], ◌∷◌, Bool, cond, ℕ, eqb, Option, Some, None}
+use Rattle.std.specs.Str.{bytes_eq}
 use Prim.Native.Char.{code}
 use Prim.Native.String.{String, [] as empty, ◌∷◌ as ◌then◌}
 
@@ -18,11 +19,13 @@ abbrev pub tab : ℕ
 tab = 9
 
 -- do two texts have the same bytes?
-unfoldable pub same_bytes : Bytes → Bytes → Bool
-same_bytes [] [] = true
-same_bytes [] (y ∷ t) = false
-same_bytes (x ∷ s) [] = false
-same_bytes (x ∷ s) (y ∷ t) = eqb x y && same_bytes s t
+abbrev pub same_bytes : Bytes → Bytes → Bool
+same_bytes = bytes_eq
+
+-- what follows from what was read, or `wrong` where nothing was
+abbrev pub known : {A B : Type 0} → A → Option B → (B → A) → A
+known wrong None next = wrong
+known wrong (Some x) next = next x
 
 -- one byte more at the front of the first part
 unfoldable pub onto : ℕ → List Bytes → List Bytes

@@ -1,11 +1,12 @@
 -- A faulty text is answered by its fault, which is never that it is full.
 use Rattle.std.specs.Prelude.{◌≡◌, refl, Bool, true, false, cond, List, [], ◌∷◌, ℕ, ◌+◌, ltb}
+use Rattle.std.specs.Prelude.{Option, Some, None, Result, Ok, Err}
 use Rattle.std.proofs.Common.{sym, subst, ◌∙◌}
 use Rattle.diagram.specs.Tensor.{indices, Tensor}
 use Rattle.diagram.specs.Compare.{compared}
 use Rattle.text.specs.Text.{Bytes, bytes, same_bytes, fields, lines}
 use Rattle.text.specs.Args.{numbers}
-use Rattle.text.specs.Names.{known, one_qubit, two_qubits}
+use Rattle.text.specs.Names.{one_qubit, two_qubits}
 use Rattle.text.specs.Session.{Capacity, unlimited, comparison}
 use Rattle.text.specs.Check.{fault, read_text, Reading, lists, ensured, one_qubit_item, two_qubit_item, gate_item_of}
 use Rattle.text.specs.Check.{gate_item_fields, item_of, with_second, second_item, second_list, with_first, first_item}
@@ -13,21 +14,18 @@ use Rattle.text.specs.Check.{first_list, header_of, after_header, read_lines}
 use Rattle.text.specs.VerdictSession.{ruling_of_reading, ruling_on, ruling_of_answer}
 use Rattle.text.specs.VerdictMeaning.{NotFull}
 use Rattle.text.specs.Runs.{GoodTextRuling, was_full, was_compared}
-use Rattle.text.specs.ArgsLaws.{by_count_lem}
+use Rattle.text.specs.ArgsLaws.{by_count_lem, known_lem}
 use Rattle.text.specs.VerdictSessionLaws.{ruling_judged}
+use Rattle.text.specs.declared.args.Args.{Args}
 use Rattle.text.specs.declared.check.Fault.{Fault}
 use Rattle.text.specs.declared.ruling.Ruling.TheVariants.{No, Same, Factor, Differ}
 use Rattle.text.specs.declared.check.Item.{Item}
 use Rattle.text.specs.declared.ruling.Ruling.{Ruling}
 use Rattle.diagram.specs.declared.gate.Gate.{Gate}
-use Rattle.text.specs.declared.names.NameResult.{NameResult}
-use Rattle.text.specs.declared.args.Args.TheVariants.{None}
-use Rattle.text.specs.declared.check.Header.{Header}
-use Rattle.text.specs.declared.check.Header.TheVariants.{Of, Bad}
+use Rattle.text.specs.declared.args.Args.TheVariants.{Zero}
 use Rattle.diagram.specs.declared.compare.Comparison.{Comparison}
 use Rattle.text.specs.declared.check.Fault.TheVariants as faults
 use Rattle.text.specs.declared.check.Item.TheVariants as item
-use Rattle.text.specs.declared.names.NameResult.TheVariants as named
 use Rattle.diagram.specs.declared.compare.Comparison.TheVariants as compare
 
 -- A text with a fault is answered by it: "the first faulty line decides".
@@ -46,10 +44,10 @@ Early faults.Equal = Unit
 Early faults.Parting = Unit
 Early faults.Full = ⊥
 
-abbrev EarlyItem : Item → Type 0
-EarlyItem (item.Gate g) = Unit
-EarlyItem item.Parting = Unit
-EarlyItem (item.Faulty f) = Early f
+abbrev EarlyItem : Result Item Fault → Type 0
+EarlyItem (Ok (item.Gate g)) = Unit
+EarlyItem (Ok item.Parting) = Unit
+EarlyItem (Err f) = Early f
 
 abbrev EarlyReading : Reading → Type 0
 EarlyReading (lists n gs hs) = Unit
@@ -61,39 +59,38 @@ EarlyRuling (Factor f) = Unit
 EarlyRuling Differ = Unit
 EarlyRuling (No f line) = Early f
 
-ensured_early : (test : Bool) (f : Fault) (next : Item) → Early f → EarlyItem next → EarlyItem (ensured test f next)
-unfolding ensured
+ensured_early : (test : Bool) (f : Fault) (next : Result Item Fault) → Early f → EarlyItem next
+    → EarlyItem (ensured test f next)
 ensured_early true f next p q = q
 ensured_early false f next p q = p
 
-known_early : (x : NameResult) (next : Gate → Item) → ((g : Gate) → EarlyItem (next g))
-    → EarlyItem (known (item.Faulty faults.Line) x next)
-known_early named.Unknown next h = tt
-known_early (named.Gate g) next h = h g
+one_early : (n q : ℕ) (x : Option Gate) → EarlyItem (one_qubit_item n q x)
+one_early n q = known_lem EarlyItem _ _ tt (λ g. ensured_early (ltb q n) faults.Qubit (Ok (item.Gate g)) tt tt)
 
-one_early : (n q : ℕ) (x : NameResult) → EarlyItem (one_qubit_item n q x)
-one_early n q x = known_early x _ (λ g. ensured_early (ltb q n) faults.Qubit (item.Gate g) tt tt)
+two_early : (n p q : ℕ) (x : Option Gate) → EarlyItem (two_qubit_item n p q x)
+two_early n p q =
+    known_lem EarlyItem _ _ tt
+    (λ g. ensured_early (ltb p n) faults.Qubit _ tt
+    (ensured_early (ltb q n) faults.Qubit _ tt (ensured_early _ faults.Equal (Ok (item.Gate g)) tt tt)))
 
-two_early : (n p q : ℕ) (x : NameResult) → EarlyItem (two_qubit_item n p q x)
-two_early n p q x =
-    known_early x _ (λ g. ensured_early (ltb p n) faults.Qubit _ tt
-    (ensured_early (ltb q n) faults.Qubit _ tt (ensured_early _ faults.Equal (item.Gate g) tt tt)))
+numbers_early : (n : ℕ) (name : Bytes) (x : Args) → EarlyItem (gate_item_of n name x)
+unfolding gate_item_of
+numbers_early n name =
+    by_count_lem EarlyItem _ (λ q. one_qubit_item n q (one_qubit name q))
+    (λ p q. two_qubit_item n p q (two_qubits name p q)) _
+    _ tt
+    (λ q. one_early n q (one_qubit name q)) (λ p q. two_early n p q (two_qubits name p q)) (λ a b c. tt) (λ a b c d. tt)
 
 fields_early : (n : ℕ) (fs : List Bytes) → EarlyItem (gate_item_fields n fs)
-unfolding gate_item_fields gate_item_of
+unfolding gate_item_fields
 fields_early n [] = tt
-fields_early n (name ∷ qs) =
-    by_count_lem EarlyItem _ _ (λ q. one_qubit_item n q (one_qubit name q))
-    (λ p q. two_qubit_item n p q (two_qubits name p q)) _
-    _ tt tt
-    (λ q. one_early n q (one_qubit name q)) (λ p q. two_early n p q (two_qubits name p q)) (λ a b c. tt) (λ a b c d. tt)
-    (numbers 1 None qs)
+fields_early n (name ∷ qs) = known_lem EarlyItem _ _ tt (numbers_early n name) (numbers 1 (Some Zero) qs)
 
 item_early : (n : ℕ) (line : Bytes) → EarlyItem (item_of n line)
 unfolding item_of
 item_early n line = go (same_bytes line (bytes "="))
   where
-    go : (t : Bool) → EarlyItem (cond t item.Parting (gate_item_fields n (fields line)))
+    go : (t : Bool) → EarlyItem (cond t (Ok item.Parting) (gate_item_fields n (fields line)))
     go true = tt
     go false = fields_early n (fields line)
 
@@ -103,11 +100,11 @@ second_early n at [] = tt
 second_early n at (line ∷ ls) =
     go (item_of n line) (item_early n line) (second_list n (at + 1) ls) (second_early n (at + 1) ls)
   where
-    go : (i : Item) → EarlyItem i → (r : Reading) → EarlyReading r → EarlyReading (second_item i at r)
-    go (item.Gate g) p (lists m gs hs) h = tt
-    go (item.Gate g) p (fault f line) h = h
-    go item.Parting p r h = tt
-    go (item.Faulty f) p r h = p
+    go : (i : Result Item Fault) → EarlyItem i → (r : Reading) → EarlyReading r → EarlyReading (second_item i at r)
+    go (Ok (item.Gate g)) p (lists m gs hs) h = tt
+    go (Ok (item.Gate g)) p (fault f line) h = h
+    go (Ok item.Parting) p r h = tt
+    go (Err f) p r h = p
 
 first_early : (n at : ℕ) (ls : List Bytes) → EarlyReading (first_list n at ls)
 unfolding first_list first_item with_first
@@ -116,20 +113,20 @@ first_early n at (line ∷ ls) =
     go (item_of n line) (item_early n line) (first_list n (at + 1) ls) (first_early n (at + 1) ls)
     (second_list n (at + 1) ls) (second_early n (at + 1) ls)
   where
-    go : (i : Item) → EarlyItem i → (r : Reading) → EarlyReading r → (q : Reading) → EarlyReading q
+    go : (i : Result Item Fault) → EarlyItem i → (r : Reading) → EarlyReading r → (q : Reading) → EarlyReading q
         → EarlyReading (first_item i at r q)
-    go (item.Gate g) p (lists m gs hs) h q k = tt
-    go (item.Gate g) p (fault f line) h q k = h
-    go item.Parting p r h q k = k
-    go (item.Faulty f) p r h q k = p
+    go (Ok (item.Gate g)) p (lists m gs hs) h q k = tt
+    go (Ok (item.Gate g)) p (fault f line) h q k = h
+    go (Ok item.Parting) p r h q k = k
+    go (Err f) p r h q k = p
 
 reading_early : (text : Bytes) → EarlyReading (read_text text)
 unfolding read_text
 reading_early text = by_lines (lines text)
   where
-    by_header : (h : Header) (ls : List Bytes) → EarlyReading (after_header h ls)
-    by_header Bad ls = unfold after_header in tt
-    by_header (Of m) ls = unfold after_header in first_early m 2 ls
+    by_header : (h : Option ℕ) (ls : List Bytes) → EarlyReading (after_header h ls)
+    by_header None ls = unfold after_header in tt
+    by_header (Some m) ls = unfold after_header in first_early m 2 ls
 
     by_lines : (ls : List Bytes) → EarlyReading (read_lines ls)
     by_lines [] = unfold read_lines in tt

@@ -1,5 +1,6 @@
 -- The line that a verdict names is one of the text's, or the one after the last.
 use mathlib.Core.List.{List, [], ◌∷◌, ◌++◌}
+use Rattle.std.specs.Prelude.{Option, Some, None, Result, Ok, Err}
 use Rattle.std.proofs.Math.Path.{◌≡◌}
 use Rattle.std.proofs.Common.{subst}
 use Rattle.std.specs.Prelude.{ℕ, ◌+◌, ◌≤◌, suc, length}
@@ -12,8 +13,6 @@ use Rattle.text.specs.VerdictSession.{NumberedCall, at_line, gate_calls, gates_c
 use Rattle.text.specs.VerdictSession.{PerformResult, refused_at, continue_with, perform}
 use Rattle.text.specs.SplitLaws.{lines_count}
 use Rattle.text.specs.declared.check.Item.{Item}
-use Rattle.text.specs.declared.check.Header.{Header}
-use Rattle.text.specs.declared.check.Header.TheVariants.{Of, Bad}
 use Rattle.text.specs.declared.check.Fault.{Fault}
 use Rattle.diagram.specs.declared.gate.Gate.{Gate}
 use Rattle.text.specs.declared.call.Call.{Call}
@@ -32,11 +31,12 @@ unfolding second_list second_item with_second
 second_within n at [] = omega arith
 second_within n at (line ∷ ls) = go (item_of n line) (second_list n (at + 1) ls) (second_within n (at + 1) ls)
   where
-    go : (i : Item) (r : Reading) → LinesWithin 0 (at + 1) ls r → LinesWithin 0 at (line ∷ ls) (second_item i at r)
-    go (item.Gate g) (lists m gs hs) h = omega arith
-    go (item.Gate g) (fault f l) h = omega arith
-    go item.Parting r h = omega arith
-    go (item.Faulty f) r h = omega arith
+    go : (i : Result Item Fault) (r : Reading) → LinesWithin 0 (at + 1) ls r
+        → LinesWithin 0 at (line ∷ ls) (second_item i at r)
+    go (Ok (item.Gate g)) (lists m gs hs) h = omega arith
+    go (Ok (item.Gate g)) (fault f l) h = omega arith
+    go (Ok item.Parting) r h = omega arith
+    go (Err f) r h = omega arith
 
 first_within : (n at : ℕ) (ls : List Bytes) → LinesWithin 1 at ls (first_list n at ls)
 unfolding first_list first_item with_first
@@ -45,13 +45,14 @@ first_within n at (line ∷ ls) =
     go (item_of n line) (first_list n (at + 1) ls) (first_within n (at + 1) ls) (second_list n (at + 1) ls)
     (second_within n (at + 1) ls)
   where
-    go : (i : Item) (r : Reading) → LinesWithin 1 (at + 1) ls r → (q : Reading) → LinesWithin 0 (at + 1) ls q
+    go : (i : Result Item Fault) (r : Reading) → LinesWithin 1 (at + 1) ls r → (q : Reading)
+        → LinesWithin 0 (at + 1) ls q
         → LinesWithin 1 at (line ∷ ls) (first_item i at r q)
-    go (item.Gate g) (lists m gs hs) h q k = omega arith
-    go (item.Gate g) (fault f l) h q k = omega arith
-    go item.Parting r h (lists m gs hs) k = omega arith
-    go item.Parting r h (fault f l) k = omega arith
-    go (item.Faulty f) r h q k = omega arith
+    go (Ok (item.Gate g)) (lists m gs hs) h q k = omega arith
+    go (Ok (item.Gate g)) (fault f l) h q k = omega arith
+    go (Ok item.Parting) r h (lists m gs hs) k = omega arith
+    go (Ok item.Parting) r h (fault f l) k = omega arith
+    go (Err f) r h q k = omega arith
 
 reading_within : (ls : List Bytes) → LinesWithin 2 1 ls (read_lines ls)
 unfolding read_lines
@@ -62,9 +63,9 @@ reading_within (line ∷ ls) = go (header_of line)
     one_more (lists n gs hs) h = omega arith
     one_more (fault f l) h = omega arith
 
-    go : (h : Header) → LinesWithin 2 1 (line ∷ ls) (after_header h ls)
-    go Bad = unfold after_header in omega arith
-    go (Of n) = unfold after_header in one_more (first_list n 2 ls) (first_within n 2 ls)
+    go : (h : Option ℕ) → LinesWithin 2 1 (line ∷ ls) (after_header h ls)
+    go None = unfold after_header in omega arith
+    go (Some n) = unfold after_header in one_more (first_list n 2 ls) (first_within n 2 ls)
 
 -- "or no `=`, at the line after the last"
 pub fault_line : (text : Bytes) {f : Fault} {line : ℕ} → read_text text ≡ fault f line → line ≤ length text + 1

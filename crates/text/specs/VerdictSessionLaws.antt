@@ -1,5 +1,7 @@
 -- Laws of VerdictSession: both lists run, or the session is refused as full; what is compared are the lists' tensors.
 use Rattle.std.specs.Prelude.{◌≡◌, refl, List, [], ◌∷◌, ℕ, ◌+◌, ◌≤◌, length, get_or}
+use Rattle.std.specs.Prelude.{Option, Some, None, Result, Ok, Err}
+use Rattle.text.specs.declared.check.Fault.{Fault}
 use Rattle.std.proofs.Common.{sym, ◌∙◌, arith}
 use Rattle.std.proofs.Math.Option.{none, some}
 use Rattle.diagram.specs.Gate.{unit_tensor}
@@ -20,8 +22,6 @@ use Rattle.text.specs.QubitsLaws.{placed_fit}
 use Rattle.text.specs.RunsLaws.{list_runs, runs_append, runs_less}
 use Rattle.diagram.specs.declared.gate.Gate.{Gate}
 use Rattle.text.specs.declared.check.Item.{Item}
-use Rattle.text.specs.declared.check.Header.{Header}
-use Rattle.text.specs.declared.check.Header.TheVariants.{Of, Bad}
 use Rattle.text.specs.declared.check.Item.TheVariants as item
 
 start_sixteen : (d : ℕ) → length (empty_tally {d = d}).registers ≡ register_count
@@ -73,11 +73,11 @@ second_good n at [] = (refl, tt, tt)
 second_good n at (line ∷ ls) =
     go (item_of n line) (item_placed n line) (second_list n (at + 1) ls) (second_good n (at + 1) ls)
   where
-    go : (i : Item) → PlacedItem n i → (r : Reading) → GoodReading n r → GoodReading n (second_item i at r)
-    go (item.Gate g) p (lists m gs hs) h = (h.0, h.1, (p, h.2))
-    go (item.Gate g) p (fault f line) h = tt
-    go item.Parting p r h = tt
-    go (item.Faulty f) p r h = tt
+    go : (i : Result Item Fault) → PlacedItem n i → (r : Reading) → GoodReading n r → GoodReading n (second_item i at r)
+    go (Ok (item.Gate g)) p (lists m gs hs) h = (h.0, h.1, (p, h.2))
+    go (Ok (item.Gate g)) p (fault f line) h = tt
+    go (Ok item.Parting) p r h = tt
+    go (Err f) p r h = tt
 
 first_good : (n at : ℕ) (ls : List Bytes) → GoodReading n (first_list n at ls)
 unfolding first_list first_item with_first
@@ -86,12 +86,12 @@ first_good n at (line ∷ ls) =
     go (item_of n line) (item_placed n line) (first_list n (at + 1) ls) (first_good n (at + 1) ls)
     (second_list n (at + 1) ls) (second_good n (at + 1) ls)
   where
-    go : (i : Item) → PlacedItem n i → (r : Reading) → GoodReading n r → (q : Reading) → GoodReading n q
+    go : (i : Result Item Fault) → PlacedItem n i → (r : Reading) → GoodReading n r → (q : Reading) → GoodReading n q
         → GoodReading n (first_item i at r q)
-    go (item.Gate g) p (lists m gs hs) h q k = (h.0, (p, h.1), h.2)
-    go (item.Gate g) p (fault f line) h q k = tt
-    go item.Parting p r h q k = k
-    go (item.Faulty f) p r h q k = tt
+    go (Ok (item.Gate g)) p (lists m gs hs) h q k = (h.0, (p, h.1), h.2)
+    go (Ok (item.Gate g)) p (fault f line) h q k = tt
+    go (Ok item.Parting) p r h q k = k
+    go (Err f) p r h q k = tt
 
 pub good_lists : (text : Bytes) {n : ℕ} {gs hs : List Gate} → read_text text ≡ lists n gs hs → GoodLists n gs hs
 unfolding read_text
@@ -110,10 +110,11 @@ good_lists text {n} {gs} {hs} e = by_lines (lines text) e
         }
     by_reading m (fault f line) l h q = absurd (let z : ◌≡◌ {A = ℕ} 0 1 = cc in omega arith)
 
-    by_header : (h : Header) → HeaderInRange h → (ls : List Bytes) → after_header h ls ≡ lists n gs hs → GoodLists n gs
+    by_header : (h : Option ℕ) → HeaderInRange h → (ls : List Bytes) → after_header h ls ≡ lists n gs hs
+        → GoodLists n gs
         hs
-    by_header Bad l ls q = absurd (let z : ◌≡◌ {A = ℕ} 0 1 = unfold after_header in cc in omega arith)
-    by_header (Of m) l ls q = by_reading m (first_list m 2 ls) l (first_good m 2 ls) (unfold after_header in q)
+    by_header None l ls q = absurd (let z : ◌≡◌ {A = ℕ} 0 1 = unfold after_header in cc in omega arith)
+    by_header (Some m) l ls q = by_reading m (first_list m 2 ls) l (first_good m 2 ls) (unfold after_header in q)
 
     by_lines : (ls : List Bytes) → read_lines ls ≡ lists n gs hs → GoodLists n gs hs
     by_lines [] q = absurd (let z : ◌≡◌ {A = ℕ} 0 1 = unfold read_lines in cc in omega arith)

@@ -1,7 +1,6 @@
 // A session's answers, and their printed bytes.
 ghost use Rattle.std.specs.Prelude.{◌≡◌, ◌+◌, ◌≤◌, ◌<◌, length};
-ghost use Rattle.text.specs.Limits.{answer_room, last_mask, last_weight};
-ghost use Rattle.text.specs.Call.{refusal_number};
+ghost use Rattle.text.specs.Limits.{answer_room, last_mask};
 ghost use Rattle.text.specs.Answer.{printed, SmallAnswer, AnswerWritten, labelled_line};
 ghost use Rattle.text.specs.Print.{WriteEnsures};
 
@@ -10,6 +9,7 @@ use crate::limits::{Mask, Weight};
 use crate::print;
 use diagram::node::NodeCount;
 
+// What a line is answered. In document 01 a refusal is one of the answers, so it stands among them, not in a `Result`.
 #[derive(Clone, Copy)]
 pub enum Answer {
     Ok(NodeCount),
@@ -21,22 +21,6 @@ pub enum Answer {
     Mask(Mask),
 }
 
-// Document 01's number of a refusal.
-pub fn refusal_number(r: Refusal) -> usize
-    ensures { (result ≡ refusal_number r) × (result ≤ last_weight) }
-{
-    match r {
-        Refusal::Malformed => 1,
-        Refusal::Register => 2,
-        Refusal::Empty => 3,
-        Refusal::Range => 4,
-        Refusal::Name => 5,
-        Refusal::Equal => 6,
-        Refusal::Depends => 7,
-        Refusal::Full => 8,
-    }
-}
-
 // Puts a word with its tab, and a number, as a line; the answer is the place after it.
 fn pair(out: &mut [u8], at: usize, word: &[u8], n: usize) -> usize
     requires { (at + answer_room ≤ length out.old) × ((length word.now < 8) × (n ≤ last_mask)) }
@@ -46,13 +30,14 @@ fn pair(out: &mut [u8], at: usize, word: &[u8], n: usize) -> usize
     print::put_bytes(out, e, b"\n")
 }
 
+#[tactic(auto, unfolding(crate::specs::Answer::printed, crate::specs::Answer::line_of_fields))]
 fn put(out: &mut [u8], at: usize, answer: Answer) -> usize
     requires { (at + answer_room ≤ length out.old) × SmallAnswer answer }
     ensures { WriteEnsures out.old at (printed answer) out.new result }
 {
     match answer {
         Answer::Ok(n) => pair(out, at, b"ok\t", n),
-        Answer::No(r) => pair(out, at, b"no\t", refusal_number(r)),
+        Answer::No(r) => pair(out, at, b"no\t", r.number()),
         Answer::Value(w) => pair(out, at, b"v\t", w),
         Answer::Same => print::put_bytes(out, at, b"same\n"),
         Answer::Factor(f) => pair(out, at, b"factor\t", f),

@@ -12,9 +12,8 @@ ghost use Rattle.text.specs.Qubits.{qubit_list, AllBelowEight, Rising};
 ghost use Rattle.text.specs.Apply.{Renamable, rename_step, contract_step, apply_step};
 
 use crate::qubits;
-use crate::qubits::Qubits;
 use diagram::diagram::{Diagram, Full};
-use diagram::gate::{Gate, Qubit};
+use diagram::gate::{Gate, Qubit, Shape};
 use diagram::node::Edge;
 
 // The fresh index of q becomes its middle.
@@ -27,14 +26,14 @@ fn rename(d: &mut Diagram, a: Edge, q: Qubit) -> Result<Edge, Full>
 }
 
 // "`low` of their fresh indices in rising order"
-fn rename_all(d: &mut Diagram, a: Edge, qubits: Qubits) -> Result<Edge, Full>
+fn rename_all(d: &mut Diagram, a: Edge, qubits: Shape) -> Result<Edge, Full>
     requires { Ready d.old a a × (AllBelowEight qubits × Renamable (qubit_list qubits) (tensor d.old a)) }
     ensures loans { KeepsLoans d.old d.new }
     ensures does { DoesCached d.old d.new (rename_step (qubit_list qubits) (tensor d.old a)) result }
 {
     match qubits {
-        Qubits::One(q) => rename(d, a, q),
-        Qubits::Two(p, q) => {
+        Shape::One(q) => rename(d, a, q),
+        Shape::Two(p, q) => {
             let e = rename(d, a, p)?;
             rename(d, e, q)
         }
@@ -42,7 +41,7 @@ fn rename_all(d: &mut Diagram, a: Edge, qubits: Qubits) -> Result<Edge, Full>
 }
 
 // "`cont 0 2 0` over the middles of its qubits", where a is the gate's tensor and x the list's
-fn contract_rename(d: &mut Diagram, a: Edge, x: Edge, qubits: Qubits) -> Result<Edge, Full>
+fn contract_rename(d: &mut Diagram, a: Edge, x: Edge, qubits: Shape) -> Result<Edge, Full>
     requires { Ready d.old a x × (AllBelowEight qubits × Rising indices 0 (qubit_list qubits)) }
     ensures loans { KeepsLoans d.old d.new }
     ensures does { DoesCached d.old d.new (contract_step (qubit_list qubits) (tensor d.old x) (tensor d.old a)) result }

@@ -1,56 +1,49 @@
 // The numbers of a line (document 01: "wrong count of fields, malformed number").
-ghost use Rattle.std.specs.Prelude.{◌≡◌, ◌≤◌, length};
+ghost use Rattle.std.specs.Prelude.{◌≡◌, ◌≤◌, length, Some};
 ghost use Rattle.text.specs.Limits.{most_digits};
 ghost use Rattle.text.specs.Split.{fields_after};
-ghost use Rattle.text.specs.Args.{push as push1, push_number, numbers};
+ghost use Rattle.text.specs.Args.{push, numbers};
 
-use crate::number::Number;
-use crate::{number, split};
+use crate::number;
 
-// At most four numbers; Wrong where one is malformed or there are more, so that 1 comes before every other refusal.
+// At most four numbers. Each count is a case of its own, so that a call says how many it has in its pattern; a buffer
+// with a length would need a slice pattern for that.
 #[derive(Clone, Copy)]
 pub enum Args {
-    Wrong,
-    None,
+    Zero,
     One(usize),
     Two(usize, usize),
     Three(usize, usize, usize),
     Four(usize, usize, usize, usize),
 }
 
-fn push(args: Args, v: usize) -> Args
-    ensures { result ≡ push1 args v }
-{
-    match args {
-        Args::Wrong => Args::Wrong,
-        Args::None => Args::One(v),
-        Args::One(a) => Args::Two(a, v),
-        Args::Two(a, b) => Args::Three(a, b, v),
-        Args::Three(a, b, c) => Args::Four(a, b, c, v),
-        Args::Four(_, _, _, _) => Args::Wrong,
+impl Args {
+    // One number more, if there are at most four then.
+    fn push(self, v: usize) -> Option<Args>
+        ensures { result ≡ push self v }
+    {
+        match self {
+            Args::Zero => Some(Args::One(v)),
+            Args::One(a) => Some(Args::Two(a, v)),
+            Args::Two(a, b) => Some(Args::Three(a, b, v)),
+            Args::Three(a, b, c) => Some(Args::Four(a, b, c, v)),
+            Args::Four(_, _, _, _) => None,
+        }
     }
 }
 
-fn push_number(args: Args, n: Number) -> Args
-    ensures { result ≡ push_number args n }
-{
-    match n {
-        Number::Malformed => Args::Wrong,
-        Number::Of(v) => push(args, v),
-    }
-}
-
-// The numbers, of at most `most` digits, in the fields after the one that ends at e.
-pub(crate) fn after(line: &[u8], e: usize, most: usize) -> Args
+// The numbers, of at most `most` digits, in the fields after the one that ends at e. None where one is malformed or
+// there are more than four, so that 1 comes before every other refusal.
+pub(crate) fn after(line: &[u8], e: usize, most: usize) -> Option<Args>
     requires { (e ≤ length line.now) × (most ≤ most_digits) }
-    ensures { result ≡ numbers most Args.None (fields_after line.now e) }
+    ensures { result ≡ numbers most (Some Args.Zero) (fields_after line.now e) }
 {
-    let mut args = Args::None;
-    let mut at = e;
-    while at < line.len() {
-        let a = at + 1;
-        at = split::end(line, a, b'\t');
-        args = push_number(args, number::read(&line[a..at], most));
+    let mut args = Args::Zero;
+    if e == line.len() {
+        return Some(args);
     }
-    args
+    for field in line[e + 1..].split(|&x| x == b'\t') {
+        args = args.push(number::read(field, most)?)?;
+    }
+    Some(args)
 }

@@ -1,6 +1,9 @@
 // Calls: the words and numbers of a line, checked field by field from the left.
-ghost use Rattle.std.specs.Prelude.{◌≡◌};
-ghost use Rattle.text.specs.Call.{check_range, check_register, check_lowered, call_of};
+#![tactic(auto, unfolding(crate::specs::Args::by_count, crate::specs::Call::call_of))]
+
+ghost use Rattle.std.specs.Prelude.{◌≡◌, ◌≤◌, Ok};
+ghost use Rattle.text.specs.Call.{check_range, check_register, check_lowered, call_of, refusal_number};
+ghost use Rattle.text.specs.Limits.{last_weight};
 
 use crate::args::Args;
 use crate::limits::{
@@ -11,19 +14,28 @@ use diagram::gate::{Gate, QubitCount};
 use diagram::node::Index;
 use diagram::registers::RegisterNumber;
 
+// Why a line is refused, with document 01's number.
 #[derive(Clone, Copy)]
 pub enum Refusal {
-    Malformed,
-    Register,
-    Empty,
-    Range,
-    Name,
-    Equal,
-    Depends,
-    Full,
+    Malformed = 1,
+    Register = 2,
+    Empty = 3,
+    Range = 4,
+    Name = 5,
+    Equal = 6,
+    Depends = 7,
+    Full = 8,
 }
 
-// A call with its registers, weights, masks, indices and assignments, in the documents' order; or a refusal.
+impl Refusal {
+    pub fn number(self) -> usize
+        ensures { (result ≡ refusal_number self) × (result ≤ last_weight) }
+    {
+        self as usize
+    }
+}
+
+// A call with its registers, weights, masks, indices and assignments, in the documents' order.
 #[derive(Clone, Copy)]
 pub enum Call {
     Put(RegisterNumber, Weight),
@@ -38,163 +50,140 @@ pub enum Call {
     Cmp(RegisterNumber, RegisterNumber),
     On(RegisterNumber),
     Lows(RegisterNumber, RegisterNumber, Mask),
-    Refused(Refusal),
 }
 
-// The call, if x is between least and most.
-pub(crate) fn check_range(x: usize, least: usize, most: usize, call: Call) -> Call
-    ensures { result ≡ check_range x least most call }
+// Is x between least and most?
+pub(crate) fn check_range(x: usize, least: usize, most: usize) -> Result<(), Refusal>
+    ensures { result ≡ check_range x least most (Ok tt) }
 {
-    if x < least {
-        return Call::Refused(Refusal::Range);
+    if x < least || most < x {
+        return Err(Refusal::Range);
     }
-    if most < x {
-        return Call::Refused(Refusal::Range);
-    }
-    call
+    Ok(())
 }
 
-// The call, if there is a register d.
-pub(crate) fn check_register(d: RegisterNumber, call: Call) -> Call
-    ensures { result ≡ check_register d call }
+// Is there a register d?
+pub(crate) fn check_register(d: RegisterNumber) -> Result<(), Refusal>
+    ensures { result ≡ check_register d (Ok tt) }
 {
     if LAST_REGISTER < d {
-        return Call::Refused(Refusal::Register);
+        return Err(Refusal::Register);
     }
-    call
+    Ok(())
 }
 
-fn put(args: Args) -> Call
-    ensures { result ≡ call_of Word.Put args }
-{
-    let Args::Two(d, w) = args else {
-        return Call::Refused(Refusal::Malformed);
-    };
-    check_register(d, check_range(w, 0, LAST_WEIGHT, Call::Put(d, w)))
-}
-
-fn unit(args: Args) -> Call
-    ensures { result ≡ call_of Word.Unit args }
-{
-    let Args::Two(d, n) = args else {
-        return Call::Refused(Refusal::Malformed);
-    };
-    check_register(d, check_range(n, 1, MOST_QUBITS, Call::Unit(d, n)))
-}
-
-fn add(args: Args) -> Call
-    ensures { result ≡ call_of Word.Add args }
-{
-    let Args::Three(d, a, b) = args else {
-        return Call::Refused(Refusal::Malformed);
-    };
-    check_register(d, check_register(a, check_register(b, Call::Add(d, a, b))))
-}
-
-fn cont(args: Args) -> Call
-    ensures { result ≡ call_of Word.Cont args }
-{
-    let Args::Four(d, a, b, m) = args else {
-        return Call::Refused(Refusal::Malformed);
-    };
-    let masked = check_range(m, 0, LAST_MASK, Call::Cont(d, a, b, m));
-    check_register(d, check_register(a, check_register(b, masked)))
-}
-
-fn low(args: Args) -> Call
-    ensures { result ≡ call_of Word.Low args }
-{
-    let Args::Three(d, a, k) = args else {
-        return Call::Refused(Refusal::Malformed);
-    };
-    check_register(
-        d,
-        check_register(a, check_range(k, 1, LAST_INDEX, Call::Low(d, a, k))),
-    )
-}
-
-fn drop(args: Args) -> Call
-    ensures { result ≡ call_of Word.Drop args }
-{
-    let Args::One(a) = args else {
-        return Call::Refused(Refusal::Malformed);
-    };
-    check_register(a, Call::Drop(a))
-}
-
-fn collect(args: Args) -> Call
-    ensures { result ≡ call_of Word.Collect args }
-{
-    if let Args::None = args {
-        Call::Collect
-    } else {
-        Call::Refused(Refusal::Malformed)
-    }
-}
-
-fn at(args: Args) -> Call
-    ensures { result ≡ call_of Word.At args }
-{
-    let Args::Two(a, v) = args else {
-        return Call::Refused(Refusal::Malformed);
-    };
-    check_register(a, check_range(v, 0, LAST_MASK, Call::At(a, v)))
-}
-
-fn cmp(args: Args) -> Call
-    ensures { result ≡ call_of Word.Cmp args }
-{
-    let Args::Two(a, b) = args else {
-        return Call::Refused(Refusal::Malformed);
-    };
-    check_register(a, check_register(b, Call::Cmp(a, b)))
-}
-
-fn on(args: Args) -> Call
-    ensures { result ≡ call_of Word.On args }
-{
-    let Args::One(a) = args else {
-        return Call::Refused(Refusal::Malformed);
-    };
-    check_register(a, Call::On(a))
-}
-
-// The call, if the set m can go down: it has no index 0, nor one above the last.
-fn check_lowered(m: Mask, call: Call) -> Call
-    ensures { result ≡ check_lowered m call }
+// Can the set m go down? It has no index 0, nor one above the last.
+fn check_lowered(m: Mask) -> Result<(), Refusal>
+    ensures { result ≡ check_lowered m (Ok tt) }
 {
     let odd = m % 2 == 1;
     if odd {
-        return Call::Refused(Refusal::Range);
+        return Err(Refusal::Range);
     }
-    check_range(m, 0, LAST_MASK, call)
+    check_range(m, 0, LAST_MASK)
 }
 
-fn lows(args: Args) -> Call
-    ensures { result ≡ call_of Word.Lows args }
+// Each word has its function, with a line for each field's check. `drop` and `on` differ in the call alone, but a
+// generic one would take a closure for two lines.
+fn put(d: RegisterNumber, w: Weight) -> Result<Call, Refusal>
+    ensures { result ≡ call_of Word.Put (Args.Two d w) }
 {
-    let Args::Three(d, a, m) = args else {
-        return Call::Refused(Refusal::Malformed);
-    };
-    check_register(d, check_register(a, check_lowered(m, Call::Lows(d, a, m))))
+    check_register(d)?;
+    check_range(w, 0, LAST_WEIGHT)?;
+    Ok(Call::Put(d, w))
+}
+
+fn unit(d: RegisterNumber, n: QubitCount) -> Result<Call, Refusal>
+    ensures { result ≡ call_of Word.Unit (Args.Two d n) }
+{
+    check_register(d)?;
+    check_range(n, 1, MOST_QUBITS)?;
+    Ok(Call::Unit(d, n))
+}
+
+fn add(d: RegisterNumber, a: RegisterNumber, b: RegisterNumber) -> Result<Call, Refusal>
+    ensures { result ≡ call_of Word.Add (Args.Three d a b) }
+{
+    check_register(d)?;
+    check_register(a)?;
+    check_register(b)?;
+    Ok(Call::Add(d, a, b))
+}
+
+fn cont(d: RegisterNumber, a: RegisterNumber, b: RegisterNumber, m: Mask) -> Result<Call, Refusal>
+    ensures { result ≡ call_of Word.Cont (Args.Four d a b m) }
+{
+    check_register(d)?;
+    check_register(a)?;
+    check_register(b)?;
+    check_range(m, 0, LAST_MASK)?;
+    Ok(Call::Cont(d, a, b, m))
+}
+
+fn low(d: RegisterNumber, a: RegisterNumber, k: Index) -> Result<Call, Refusal>
+    ensures { result ≡ call_of Word.Low (Args.Three d a k) }
+{
+    check_register(d)?;
+    check_register(a)?;
+    check_range(k, 1, LAST_INDEX)?;
+    Ok(Call::Low(d, a, k))
+}
+
+fn drop(a: RegisterNumber) -> Result<Call, Refusal>
+    ensures { result ≡ call_of Word.Drop (Args.One a) }
+{
+    check_register(a)?;
+    Ok(Call::Drop(a))
+}
+
+fn at(a: RegisterNumber, v: Assignment) -> Result<Call, Refusal>
+    ensures { result ≡ call_of Word.At (Args.Two a v) }
+{
+    check_register(a)?;
+    check_range(v, 0, LAST_MASK)?;
+    Ok(Call::At(a, v))
+}
+
+fn cmp(a: RegisterNumber, b: RegisterNumber) -> Result<Call, Refusal>
+    ensures { result ≡ call_of Word.Cmp (Args.Two a b) }
+{
+    check_register(a)?;
+    check_register(b)?;
+    Ok(Call::Cmp(a, b))
+}
+
+fn on(a: RegisterNumber) -> Result<Call, Refusal>
+    ensures { result ≡ call_of Word.On (Args.One a) }
+{
+    check_register(a)?;
+    Ok(Call::On(a))
+}
+
+fn lows(d: RegisterNumber, a: RegisterNumber, m: Mask) -> Result<Call, Refusal>
+    ensures { result ≡ call_of Word.Lows (Args.Three d a m) }
+{
+    check_register(d)?;
+    check_register(a)?;
+    check_lowered(m)?;
+    Ok(Call::Lows(d, a, m))
 }
 
 // The call of a word, other than `gate`, with these numbers.
-pub fn make(word: Word, args: Args) -> Call
+pub fn make(word: Word, args: Args) -> Result<Call, Refusal>
     ensures { result ≡ call_of word args }
 {
-    match word {
-        Word::Put => put(args),
-        Word::Unit => unit(args),
-        Word::Add => add(args),
-        Word::Cont => cont(args),
-        Word::Low => low(args),
-        Word::Drop => drop(args),
-        Word::Collect => collect(args),
-        Word::At => at(args),
-        Word::Cmp => cmp(args),
-        Word::On => on(args),
-        Word::Lows => lows(args),
-        Word::Unknown => Call::Refused(Refusal::Malformed),
+    match (word, args) {
+        (Word::Put, Args::Two(d, w)) => put(d, w),
+        (Word::Unit, Args::Two(d, n)) => unit(d, n),
+        (Word::Add, Args::Three(d, a, b)) => add(d, a, b),
+        (Word::Cont, Args::Four(d, a, b, m)) => cont(d, a, b, m),
+        (Word::Low, Args::Three(d, a, k)) => low(d, a, k),
+        (Word::Drop, Args::One(a)) => drop(a),
+        (Word::Collect, Args::Zero) => Ok(Call::Collect),
+        (Word::At, Args::Two(a, v)) => at(a, v),
+        (Word::Cmp, Args::Two(a, b)) => cmp(a, b),
+        (Word::On, Args::One(a)) => on(a),
+        (Word::Lows, Args::Three(d, a, m)) => lows(d, a, m),
+        _ => Err(Refusal::Malformed),
     }
 }

@@ -1,103 +1,102 @@
 // Verdict texts: every line is read, and the first faulty line decides.
-ghost use Rattle.std.specs.Prelude.{◌≡◌, ◌+◌, ◌≤◌, length, drop};
+ghost use Rattle.std.specs.Prelude.{◌≡◌, ◌+◌, ◌≤◌, length, drop, None};
 ghost use Rattle.text.specs.Text.{lines};
+ghost use Rattle.text.specs.Ruling.{fault_number};
+ghost use Rattle.text.specs.Names.{one_qubit, two_qubits};
 ghost use Rattle.text.specs.Check.{HeaderRead, ItemRead, IsGate, GateRead, TextRead};
-ghost use Rattle.text.specs.Check.{parting_after, check_lines, ensured, one_qubit_item, two_qubit_item};
+ghost use Rattle.text.specs.Check.{parting_after, check_lines, one_qubit_item, two_qubit_item};
 ghost use Rattle.text.specs.Check.{gate_item_of, item_of, header_numbers};
 
 use crate::args::Args;
 use crate::limits::{LineNumber, MOST_DIGITS, MOST_QUBITS};
-use crate::names::NameResult;
 use crate::{args, names, split};
 use diagram::gate::{Gate, Qubit, QubitCount};
 
+// Why a text is refused, with document 01's number.
 #[derive(Clone, Copy)]
 pub enum Fault {
-    Header,
-    Line,
-    Qubit,
-    Equal,
-    Parting,
-    Full,
+    Header = 10,
+    Line = 11,
+    Qubit = 12,
+    Equal = 13,
+    Parting = 14,
+    Full = 8,
 }
 
-// The first line: its n, if it is good.
+impl Fault {
+    pub fn number(self) -> usize
+        ensures { (result ≡ fault_number self) × (result ≤ 14) }
+    {
+        self as usize
+    }
+}
+
+// A fault, and the line that has it.
 #[derive(Clone, Copy)]
-pub enum Header {
-    Of(QubitCount),
-    Bad,
+pub struct FaultAt {
+    pub fault: Fault,
+    pub line: LineNumber,
 }
 
-// A line after the first: a gate, the `=` that parts the lists, or a fault.
+// A line after the first: a gate, or the `=` that parts the lists.
 #[derive(Clone, Copy)]
 pub enum Item {
     Gate(Gate),
     Parting,
-    Faulty(Fault),
 }
 
-// After a line: the line of `=` so far, or 0; or the line's fault.
+// What is known of a text without a fault: its n, the line of `=` and the number of lines.
 #[derive(Clone, Copy)]
-pub enum Next {
-    On(LineNumber),
-    Stop(Fault),
+pub struct Checked {
+    pub n: QubitCount,
+    pub parting: LineNumber,
+    pub count: usize,
 }
 
-// A text without a fault: its n, the line of `=` and the number of lines. Or its first fault and the line of that.
-#[derive(Clone, Copy)]
-pub enum CheckResult {
-    Good(QubitCount, LineNumber, LineNumber),
-    Faulty(Fault, LineNumber),
-}
-
-fn ensure(test: bool, fault: Fault, item: Item) -> Item
-    ensures { result ≡ ensured test fault item }
+fn one_qubit_item(n: QubitCount, name: &[u8], q: Qubit) -> Result<Item, Fault>
+    ensures { result ≡ one_qubit_item n q (one_qubit name.now q) }
 {
-    if test { item } else { Item::Faulty(fault) }
-}
-
-fn one_qubit_item(n: QubitCount, q: Qubit, name: NameResult) -> Item
-    ensures { result ≡ one_qubit_item n q name }
-{
-    match name {
-        NameResult::Unknown => Item::Faulty(Fault::Line),
-        NameResult::Gate(g) => ensure(q < n, Fault::Qubit, Item::Gate(g)),
+    let g = names::one_qubit(name, q).ok_or(Fault::Line)?;
+    if n <= q {
+        return Err(Fault::Qubit);
     }
+    Ok(Item::Gate(g))
 }
 
-fn two_qubit_item(n: QubitCount, p: Qubit, q: Qubit, name: NameResult) -> Item
-    ensures { result ≡ two_qubit_item n p q name }
+fn two_qubit_item(n: QubitCount, name: &[u8], p: Qubit, q: Qubit) -> Result<Item, Fault>
+    ensures { result ≡ two_qubit_item n p q (two_qubits name.now p q) }
 {
-    match name {
-        NameResult::Unknown => Item::Faulty(Fault::Line),
-        NameResult::Gate(g) => {
-            let apart = ensure(p != q, Fault::Equal, Item::Gate(g));
-            ensure(p < n, Fault::Qubit, ensure(q < n, Fault::Qubit, apart))
-        }
+    let g = names::two_qubits(name, p, q).ok_or(Fault::Line)?;
+    if n <= p || n <= q {
+        return Err(Fault::Qubit);
     }
+    if p == q {
+        return Err(Fault::Equal);
+    }
+    Ok(Item::Gate(g))
 }
 
-fn gate_item(n: QubitCount, name: &[u8], qubits: Args) -> Item
+#[tactic(auto, unfolding(crate::specs::Args::by_count, crate::specs::Check::gate_item_of))]
+fn gate_item(n: QubitCount, name: &[u8], qubits: Args) -> Result<Item, Fault>
     ensures { result ≡ gate_item_of n name.now qubits }
 {
     match qubits {
-        Args::One(q) => one_qubit_item(n, q, names::one_qubit(name, q)),
-        Args::Two(p, q) => two_qubit_item(n, p, q, names::two_qubits(name, p, q)),
-        _ => Item::Faulty(Fault::Line),
+        Args::One(q) => one_qubit_item(n, name, q),
+        Args::Two(p, q) => two_qubit_item(n, name, p, q),
+        _ => Err(Fault::Line),
     }
 }
 
 // A line after the first.
-fn read(n: QubitCount, line: &[u8]) -> Item
+fn read(n: QubitCount, line: &[u8]) -> Result<Item, Fault>
     ensures { ItemRead n line.now result }
 {
-    if split::same(line, b"=") {
-        return Item::Parting;
+    if line == b"=".as_slice() {
+        return Ok(Item::Parting);
     }
-    let a = 0;
-    let e = split::end(line, a, b'\t');
-    let qubits = args::after(line, e, 1);
-    gate_item(n, &line[a..e], qubits)
+    let e = split::end(line, 0, b'\t');
+    let qubits = args::after(line, e, 1).ok_or(Fault::Line)?;
+    gate_item(n, &line[..e], qubits)
 }
 
 // The gate of a good gate line, when a good text is read again.
@@ -106,89 +105,88 @@ pub fn gate(n: QubitCount, line: &[u8]) -> Gate
     ensures { GateRead n line.now result }
 {
     match read(n, line) {
-        Item::Gate(g) => g,
-        Item::Parting => Gate::X(0),
-        Item::Faulty(_) => Gate::X(0),
+        Ok(Item::Gate(g)) => g,
+        _ => unreachable!(),
     }
 }
 
-fn header_number(args: Args) -> Header
+#[tactic(auto, unfolding(crate::specs::Args::by_count, crate::specs::Check::header_numbers))]
+fn header_number(args: Args) -> Option<QubitCount>
     ensures { result ≡ header_numbers args }
 {
-    let Args::One(n) = args else {
-        return Header::Bad;
-    };
-    if n < 1 {
-        return Header::Bad;
+    match args {
+        Args::One(n) if 1 <= n && n <= MOST_QUBITS => Some(n),
+        _ => None,
     }
-    if MOST_QUBITS < n {
-        return Header::Bad;
-    }
-    Header::Of(n)
 }
 
-// The first line.
-fn read_header(line: &[u8]) -> Header
+// The n of the first line, if that is good.
+fn read_header(line: &[u8]) -> Option<QubitCount>
     ensures { HeaderRead line.now result }
 {
-    let a = 0;
-    let e = split::end(line, a, b'\t');
-    if split::same(&line[a..e], b"lines") {
-        return header_number(args::after(line, e, MOST_DIGITS));
+    let e = split::end(line, 0, b'\t');
+    if &line[..e] == b"lines".as_slice() {
+        return header_number(args::after(line, e, MOST_DIGITS)?);
     }
-    Header::Bad
+    None
 }
 
-fn parting_after(item: Item, parting: LineNumber, line: LineNumber) -> Next
+// The line of `=` so far, after a line that is this item; or the fault.
+fn parting_after(
+    item: Result<Item, Fault>,
+    parting: Option<LineNumber>,
+    line: LineNumber,
+) -> Result<Option<LineNumber>, FaultAt>
     ensures { result ≡ parting_after item parting line }
 {
-    match item {
-        Item::Gate(_) => Next::On(parting),
-        Item::Parting => {
-            if parting == 0 {
-                return Next::On(line);
-            }
-            Next::Stop(Fault::Parting)
-        }
-        Item::Faulty(f) => Next::Stop(f),
+    match (item, parting) {
+        (Ok(Item::Gate(_)), _) => Ok(parting),
+        (Ok(Item::Parting), None) => Ok(Some(line)),
+        (Ok(Item::Parting), Some(_)) => Err(FaultAt {
+            fault: Fault::Parting,
+            line,
+        }),
+        (Err(fault), _) => Err(FaultAt { fault, line }),
     }
 }
 
-// The lines after the first, from `start` on. `count` lines have been read, and `parting` is the line of `=`, or 0.
-fn check_lines(text: &[u8], start: usize, n: QubitCount) -> CheckResult
+// The lines after the first, from `start` on.
+fn check_lines(text: &[u8], start: usize, n: QubitCount) -> Result<Checked, FaultAt>
     requires { (1 ≤ start) × (start ≤ length text.now + 1) }
-    ensures { result ≡ check_lines n 0 1 (lines (drop start text.now)) }
+    ensures { result ≡ check_lines n None 1 (lines (drop start text.now)) }
 {
     let mut a = start;
-    let mut count: usize = 1;
-    let mut parting: LineNumber = 0;
+    let mut count = 1;
+    let mut parting = None;
+    // The place goes from line to line, past bytes that `split::end` has passed.
     while a < text.len() {
         let e = split::end(text, a, b'\n');
         let line = count + 1;
-        match parting_after(read(n, &text[a..e]), parting, line) {
-            Next::Stop(f) => return CheckResult::Faulty(f, line),
-            Next::On(p) => parting = p,
-        }
+        parting = parting_after(read(n, &text[a..e]), parting, line)?;
         a = e + 1;
         count = line;
     }
-    if parting == 0 {
-        return CheckResult::Faulty(Fault::Parting, count + 1);
+    match parting {
+        Some(parting) => Ok(Checked { n, parting, count }),
+        None => Err(FaultAt {
+            fault: Fault::Parting,
+            line: count + 1,
+        }),
     }
-    CheckResult::Good(n, parting, count)
 }
 
 // Reads a whole text.
-pub fn check(text: &[u8]) -> CheckResult
+pub fn check(text: &[u8]) -> Result<Checked, FaultAt>
     ensures { TextRead text.now result }
 {
-    if text.len() == 0 {
-        return CheckResult::Faulty(Fault::Header, 1);
+    let header = FaultAt {
+        fault: Fault::Header,
+        line: 1,
+    };
+    if text.is_empty() {
+        return Err(header);
     }
-    let a = 0;
-    let e = split::end(text, a, b'\n');
-    match read_header(&text[a..e]) {
-        Header::Bad => CheckResult::Faulty(Fault::Header, 1),
-        Header::Of(n) => check_lines(text, e + 1, n),
-    }
+    let e = split::end(text, 0, b'\n');
+    let n = read_header(&text[..e]).ok_or(header)?;
+    check_lines(text, e + 1, n)
 }

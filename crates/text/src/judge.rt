@@ -8,7 +8,7 @@ ghost use Rattle.text.specs.VerdictSession.{ruling_of_answer};
 ghost use Rattle.text.specs.Judge.{JudgesSecond, JudgeEnsures, VerdictEnsures};
 
 use crate::answer::Answer;
-use crate::check::{CheckResult, Fault};
+use crate::check::Fault;
 use crate::engine::Engine;
 use crate::limits::{LineNumber, VERDICT_ROOM};
 use crate::list::Lists;
@@ -80,8 +80,8 @@ fn judge(text: &[u8], store: &mut [u8], cache: &mut [u64]) -> Ruling
     ensures { JudgeEnsures text.now store.old result }
 {
     match check::check(text) {
-        CheckResult::Faulty(f, line) => Ruling::No(f, line),
-        CheckResult::Good(n, parting, count) => run(text, store, cache, n, parting, count),
+        Err(f) => Ruling::No(f.fault, f.line),
+        Ok(good) => run(text, store, cache, good.n, good.parting, good.count),
     }
 }
 

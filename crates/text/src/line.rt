@@ -1,20 +1,20 @@
 // A line of a session.
 ghost use Rattle.text.specs.Line.{LineRead};
 
-use crate::call::Call;
+use crate::call::{Call, Refusal};
 use crate::limits::MOST_DIGITS;
 use crate::{args, call, gate, split, words};
 
 // The call that a line is, or its refusal.
-pub fn read(line: &[u8]) -> Call
+pub fn read(line: &[u8]) -> Result<Call, Refusal>
     ensures { LineRead line.now result }
 {
-    let a = 0;
-    let e = split::end(line, a, b'\t');
-    if split::same(&line[a..e], b"gate") {
+    let e = split::end(line, 0, b'\t');
+    let word = &line[..e];
+    if word == b"gate".as_slice() {
         return gate::read(line, e);
     }
-    let word = words::read(&line[a..e]);
-    let args = args::after(line, e, MOST_DIGITS);
+    let word = words::read(word).ok_or(Refusal::Malformed)?;
+    let args = args::after(line, e, MOST_DIGITS).ok_or(Refusal::Malformed)?;
     call::make(word, args)
 }

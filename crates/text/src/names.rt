@@ -1,50 +1,47 @@
 // The gates' names.
 ghost use Rattle.std.specs.Prelude.{◌≡◌};
-ghost use Rattle.text.specs.Names.{choose_name, one_qubit, two_qubits};
+ghost use Rattle.text.specs.Names.{one_qubit, two_qubits};
 
-use crate::split;
 use diagram::gate::{Gate, Qubit};
 
-#[derive(Clone, Copy)]
-pub enum NameResult {
-    Gate(Gate),
-    Unknown,
-}
-
-// The gate `yes` where s is the name, else `no`.
-fn choose(s: &[u8], name: &[u8], yes: Gate, no: NameResult) -> NameResult
-    ensures { result ≡ choose_name s.now name.now yes no }
+// The gate of this name on one qubit, if it is a name.
+#[tactic(auto, unfolding(crate::specs::Names::one_qubit))]
+pub(crate) fn one_qubit(s: &[u8], q: Qubit) -> Option<Gate>
+    ensures { result ≡ one_qubit s.now q }
 {
-    if split::same(s, name) {
-        NameResult::Gate(yes)
+    if s == b"X".as_slice() {
+        Some(Gate::X(q))
+    } else if s == b"Y".as_slice() {
+        Some(Gate::Y(q))
+    } else if s == b"Z".as_slice() {
+        Some(Gate::Z(q))
+    } else if s == b"H".as_slice() {
+        Some(Gate::H(q))
+    } else if s == b"S".as_slice() {
+        Some(Gate::S(q))
+    } else if s == b"SD".as_slice() {
+        Some(Gate::Sd(q))
+    } else if s == b"T".as_slice() {
+        Some(Gate::T(q))
+    } else if s == b"TD".as_slice() {
+        Some(Gate::Td(q))
     } else {
-        no
+        None
     }
 }
 
-// The gate of this name on one qubit. It is looked for from the last to the first.
-pub(crate) fn one_qubit(s: &[u8], q: Qubit) -> NameResult
-    ensures { result ≡ one_qubit s.now q }
-{
-    let g = NameResult::Unknown;
-    let g = choose(s, b"TD", Gate::Td(q), g);
-    let g = choose(s, b"T", Gate::T(q), g);
-    let g = choose(s, b"SD", Gate::Sd(q), g);
-    let g = choose(s, b"S", Gate::S(q), g);
-    let g = choose(s, b"H", Gate::H(q), g);
-    let g = choose(s, b"Z", Gate::Z(q), g);
-    let g = choose(s, b"Y", Gate::Y(q), g);
-    let g = choose(s, b"X", Gate::X(q), g);
-    g
-}
-
-// The gate of this name on two qubits.
-pub(crate) fn two_qubits(s: &[u8], p: Qubit, q: Qubit) -> NameResult
+// The gate of this name on two qubits, if it is a name.
+#[tactic(auto, unfolding(crate::specs::Names::two_qubits))]
+pub(crate) fn two_qubits(s: &[u8], p: Qubit, q: Qubit) -> Option<Gate>
     ensures { result ≡ two_qubits s.now p q }
 {
-    let g = NameResult::Unknown;
-    let g = choose(s, b"SW", Gate::Sw(p, q), g);
-    let g = choose(s, b"CZ", Gate::Cz(p, q), g);
-    let g = choose(s, b"CX", Gate::Cx(p, q), g);
-    g
+    if s == b"CX".as_slice() {
+        Some(Gate::Cx(p, q))
+    } else if s == b"CZ".as_slice() {
+        Some(Gate::Cz(p, q))
+    } else if s == b"SW".as_slice() {
+        Some(Gate::Sw(p, q))
+    } else {
+        None
+    }
 }

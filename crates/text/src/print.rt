@@ -6,23 +6,21 @@ fn digit_byte(d: usize) -> u8
     requires { d < 10 }
     ensures { result ≡ 48 + d }
 {
-    48 + d as u8
+    b'0' + d as u8
 }
 
-// Puts s at a place, and answers the place after it.
+// Puts s at a place, and answers the place after it. (A struct of the output and the place would hold a lent slice, and
+// each promise would have to say that it is still the same one.)
 pub(crate) fn put_bytes(out: &mut [u8], at: usize, s: &[u8]) -> usize
     requires { at + length s.now ≤ length out.old }
     ensures { WriteEnsures out.old at s.now out.new result }
 {
-    let mut i = 0;
-    while i < s.len() {
-        out[at + i] = s[i];
-        i += 1;
-    }
-    at + i
+    let end = at + s.len();
+    out[at..end].copy_from_slice(s);
+    end
 }
 
-// Puts a number's digits at a place, and answers the place after them.
+// Puts a number's digits at a place (std writes digits to a sink that may fail), and answers the place after them.
 pub fn number(out: &mut [u8], at: usize, n: usize) -> usize
     requires { at + length (decimal n) ≤ length out.old }
     ensures { WriteEnsures out.old at (decimal n) out.new result }

@@ -37,8 +37,7 @@ impl<'b, 'a> Engine<'b, 'a> {
         ensures loans { KeepsEngine self.old self.new }
         ensures answers { AnswersLine self.old self.new line.now place out.old out.new p result }
     {
-        let call = line::read(line);
-        let answer = self.respond(call);
+        let answer = self.reply(line::read(line));
         Progress {
             code: 0,
             lines: p.lines + 1,

@@ -8,24 +8,14 @@ ghost use Rattle.text.specs.Qubits.{qubit_list, AllBelowEight, QubitsOf, middles
 use crate::limits::Mask;
 use diagram::gate::{Gate, Qubit, Shape};
 
-#[derive(Clone, Copy)]
-pub enum Qubits {
-    One(Qubit),
-    Two(Qubit, Qubit),
-}
-
-pub(crate) fn of(g: Gate) -> Qubits
+// The gate's qubits, the lower one first.
+pub(crate) fn of(g: Gate) -> Shape
     requires { Placed most_qubits g }
     ensures { QubitsOf g result }
 {
     match g.shape() {
-        Shape::One(q) => Qubits::One(q),
-        Shape::Two(p, q) => {
-            if q < p {
-                return Qubits::Two(q, p);
-            }
-            Qubits::Two(p, q)
-        }
+        Shape::One(q) => Shape::One(q),
+        Shape::Two(p, q) => Shape::Two(p.min(q), p.max(q)),
     }
 }
 
@@ -39,12 +29,12 @@ fn middle(q: Qubit) -> Mask
 }
 
 // "over the middles of its qubits"
-pub(crate) fn middles(qubits: Qubits) -> Mask
+pub(crate) fn middles(qubits: Shape) -> Mask
     requires { AllBelowEight qubits }
     ensures { (result ≡ middles_of (qubit_list qubits)) × (result < masks) }
 {
     match qubits {
-        Qubits::One(q) => middle(q),
-        Qubits::Two(p, q) => middle(p) + middle(q),
+        Shape::One(q) => middle(q),
+        Shape::Two(p, q) => middle(p) + middle(q),
     }
 }

@@ -2,9 +2,9 @@
 // 2, 4, 5 and 6 are past: "3 from the left; 7; 8".
 ghost use Rattle.std.specs.Prelude.{◌≡◌};
 ghost use Rattle.text.specs.Session.{comparison};
-ghost use Rattle.text.specs.Call.{InRange};
+ghost use Rattle.text.specs.Call.{InRange, Ranged};
 ghost use Rattle.text.specs.Engine.{KeepsEngine, IsEngine};
-ghost use Rattle.text.specs.Respond.{Responds};
+ghost use Rattle.text.specs.Respond.{Responds, Replies};
 ghost use Rattle.text.specs.declared.call.Call.TheVariants as call;
 
 use crate::answer::Answer;
@@ -157,7 +157,18 @@ impl<'b, 'a> Engine<'b, 'a> {
             Call::Cmp(a, b) => self.cmp(a, b),
             Call::On(a) => self.on(a),
             Call::Lows(d, a, m) => self.respond_lows(d, a, m),
-            Call::Refused(r) => Answer::No(r),
+        }
+    }
+
+    // What a line does and answers: its call's, or what its reader refused.
+    pub(crate) fn reply(&mut self, read: Result<Call, Refusal>) -> Answer
+        requires { IsEngine self.old × Ranged read }
+        ensures loans { KeepsEngine self.old self.new }
+        ensures replies { Replies self.old self.new read result }
+    {
+        match read {
+            Ok(call) => self.respond(call),
+            Err(why) => Answer::No(why),
         }
     }
 }

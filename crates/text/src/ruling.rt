@@ -1,13 +1,14 @@
 // A verdict's answer, and its printed bytes.
-ghost use Rattle.std.specs.Prelude.{◌≡◌, ◌≤◌, length};
+ghost use Rattle.std.specs.Prelude.{◌≤◌, length};
 ghost use Rattle.text.specs.Limits.{verdict_room};
-ghost use Rattle.text.specs.Ruling.{fault_number, SmallRuling, RulingWritten};
+ghost use Rattle.text.specs.Ruling.{SmallRuling, RulingWritten};
 
 use crate::answer::Answer;
 use crate::check::Fault;
 use crate::limits::{LineNumber, Weight};
 use crate::{answer, print};
 
+// What a text is answered: as in sessions, `no` is one of the answers.
 #[derive(Clone, Copy)]
 pub enum Ruling {
     Same,
@@ -23,25 +24,11 @@ pub struct VerdictResult {
     pub bytes: usize,
 }
 
-// Document 01's number of a fault.
-pub fn fault_number(f: Fault) -> usize
-    ensures { (result ≡ fault_number f) × (result ≤ 14) }
-{
-    match f {
-        Fault::Header => 10,
-        Fault::Line => 11,
-        Fault::Qubit => 12,
-        Fault::Equal => 13,
-        Fault::Parting => 14,
-        Fault::Full => 8,
-    }
-}
-
 fn write_refusal(out: &mut [u8], fault: Fault, line: LineNumber) -> usize
     requires { verdict_room ≤ length out.old }
     ensures { RulingWritten out.old (Ruling.No fault line) out.new result }
 {
-    let n = fault_number(fault);
+    let n = fault.number();
     let a = print::labelled(out, 0, b"no\t", n);
     let b = print::labelled(out, a, b"\t", line);
     print::put_bytes(out, b, b"\n")

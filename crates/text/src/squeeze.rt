@@ -12,48 +12,43 @@ pub struct Squeeze {
     pub width: usize,
 }
 
-// Nothing of a line is seen yet.
-pub fn none() -> Squeeze
-    ensures { NoneEnsures result }
-{
-    Squeeze {
-        length: 0,
-        tabs: 0,
-        width: 0,
+impl Squeeze {
+    // Nothing of a line is seen yet.
+    pub fn none() -> Squeeze
+        ensures { NoneEnsures result }
+    {
+        Squeeze {
+            length: 0,
+            tabs: 0,
+            width: 0,
+        }
     }
-}
 
-// One byte more of the line: put after those kept, or left out.
-pub fn push(line: &mut [u8], s: Squeeze, b: u8) -> Squeeze
-    requires { (line_room ≤ length line.old) × SqueezeFits s }
-    ensures { PushEnsures line.old s b line.new result }
-{
-    let length = s.length;
-    let tabs = s.tabs;
-    let width = s.width;
-    if b == b'\t' {
-        if tabs < 5 {
-            line[length] = b;
+    // One byte more of the line: put after those kept, or left out.
+    pub fn push(self, line: &mut [u8], b: u8) -> Squeeze
+        requires { (line_room ≤ length line.old) × SqueezeFits self }
+        ensures { PushEnsures line.old self b line.new result }
+    {
+        if b == b'\t' {
+            if self.tabs < 5 {
+                line[self.length] = b;
+                return Squeeze {
+                    length: self.length + 1,
+                    tabs: self.tabs + 1,
+                    width: 0,
+                };
+            }
+            // The sixth field ends, and counts as full from here on.
+            return Squeeze { width: 9, ..self };
+        }
+        if self.width < 9 {
+            line[self.length] = b;
             return Squeeze {
-                length: length + 1,
-                tabs: tabs + 1,
-                width: 0,
+                length: self.length + 1,
+                width: self.width + 1,
+                ..self
             };
         }
-        // The sixth field ends, and counts as full from here on.
-        return Squeeze {
-            length,
-            tabs,
-            width: 9,
-        };
+        self
     }
-    if width < 9 {
-        line[length] = b;
-        return Squeeze {
-            length: length + 1,
-            tabs,
-            width: width + 1,
-        };
-    }
-    s
 }

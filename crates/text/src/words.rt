@@ -1,9 +1,6 @@
 // The words of session calls, but `gate`.
-ghost use Rattle.std.specs.Prelude.{◌≡◌, cond};
-ghost use Rattle.text.specs.Text.{same_bytes};
+ghost use Rattle.std.specs.Prelude.{◌≡◌};
 ghost use Rattle.text.specs.Words.{word_of};
-
-use crate::split;
 
 #[derive(Clone, Copy)]
 pub enum Word {
@@ -18,31 +15,36 @@ pub enum Word {
     Cmp,
     On,
     Lows,
-    Unknown,
 }
 
-// `yes` where s is the word, else `no`.
-fn choose(s: &[u8], word: &[u8], yes: Word, no: Word) -> Word
-    ensures { result ≡ cond (same_bytes s.now word.now) yes no }
-{
-    if split::same(s, word) { yes } else { no }
-}
-
-// The word that s is. It is looked for from the last to the first.
-pub(crate) fn read(s: &[u8]) -> Word
+// The word that s is, if it is one. (A `match` on byte strings has a goal for each byte at which s may differ.)
+#[tactic(auto, unfolding(crate::specs::Words::word_of))]
+pub(crate) fn read(s: &[u8]) -> Option<Word>
     ensures { result ≡ word_of s.now }
 {
-    let w = Word::Unknown;
-    let w = choose(s, b"lows", Word::Lows, w);
-    let w = choose(s, b"on", Word::On, w);
-    let w = choose(s, b"cmp", Word::Cmp, w);
-    let w = choose(s, b"at", Word::At, w);
-    let w = choose(s, b"collect", Word::Collect, w);
-    let w = choose(s, b"drop", Word::Drop, w);
-    let w = choose(s, b"low", Word::Low, w);
-    let w = choose(s, b"cont", Word::Cont, w);
-    let w = choose(s, b"add", Word::Add, w);
-    let w = choose(s, b"unit", Word::Unit, w);
-    let w = choose(s, b"put", Word::Put, w);
-    w
+    if s == b"put".as_slice() {
+        Some(Word::Put)
+    } else if s == b"unit".as_slice() {
+        Some(Word::Unit)
+    } else if s == b"add".as_slice() {
+        Some(Word::Add)
+    } else if s == b"cont".as_slice() {
+        Some(Word::Cont)
+    } else if s == b"low".as_slice() {
+        Some(Word::Low)
+    } else if s == b"drop".as_slice() {
+        Some(Word::Drop)
+    } else if s == b"collect".as_slice() {
+        Some(Word::Collect)
+    } else if s == b"at".as_slice() {
+        Some(Word::At)
+    } else if s == b"cmp".as_slice() {
+        Some(Word::Cmp)
+    } else if s == b"on".as_slice() {
+        Some(Word::On)
+    } else if s == b"lows".as_slice() {
+        Some(Word::Lows)
+    } else {
+        None
+    }
 }

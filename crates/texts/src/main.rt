@@ -3,7 +3,7 @@
 #![tactic(auto)]
 
 use std::io::{Print, Read, Stdin, Stdout};
-use text::check::CheckResult;
+use text::check::{Checked, FaultAt};
 
 // The longest text, and how many bytes are read at once.
 const TEXT: usize = 65536;
@@ -20,18 +20,18 @@ fn number(stdout: Stdout, n: usize) {
     print!(stdout; "{n}").unwrap_or(());
 }
 
-fn show(stdout: Stdout, checked: CheckResult) {
+fn show(stdout: Stdout, checked: Result<Checked, FaultAt>) {
     match checked {
-        CheckResult::Good(n, parting, count) => {
+        Ok(good) => {
             word(stdout, b"good");
-            number(stdout, n);
-            number(stdout, parting);
-            number(stdout, count);
+            number(stdout, good.n);
+            number(stdout, good.parting);
+            number(stdout, good.count);
         }
-        CheckResult::Faulty(f, line) => {
+        Err(f) => {
             word(stdout, b"no");
-            number(stdout, text::ruling::fault_number(f));
-            number(stdout, line);
+            number(stdout, f.fault.number());
+            number(stdout, f.line);
         }
     }
     word(stdout, b"\n");

@@ -1,24 +1,27 @@
--- A line lets the walk go on or stops it with its fault; at the end it counts whether an `=` was seen.
-use mathlib.Core.Path.{◌∙◌}
+-- Line after line; the first fault decides.
+use Rattle.std.specs.Prelude.{◌≡◌, Err}
+use Rattle.std.proofs.Common.{rules, ◌∙◌}
+use Rattle.text.specs.Check.{checked_at_end}
 use Rattle.text.specs.CheckTextLaws.{check_loop_start, check_loop_next, check_loop_fault, check_loop_end}
-use Rattle.text.specs.CheckTextLaws.{at_end_good, at_end_none}
 use Rattle.text.proofs.check.check_lines.Goals as goal
 
 pub loop-a-init : goal.loop-a-init
 loop-a-init c = check_loop_start c.requires.0 c.requires.1
 
-pub returns-in-Stop : goal.returns-in-Stop
-returns-in-Stop c = check_loop_fault c.loop-a.invariant c.loop-a-test.true c.end-e.ensures
-    c.read.ensures c.parting_after.ensures c.in-Stop.is
+pub returns-in_err-parting : goal.returns-in_err-parting
+returns-in_err-parting c =
+    let fault : c.from_residual.result ≡ Err c.in_err-parting.field-0.0 = search rules in
+    fault ∙ check_loop_fault c.loop-a.invariant c.loop-a-test.true c.end-e.ensures c.read.ensures
+    c.parting_after.ensures c.in_err-parting.was
 
 pub loop-a-preserved : goal.loop-a-preserved
-loop-a-preserved c = check_loop_next c.loop-a.invariant c.loop-a-test.true c.end-e.ensures
-    c.read.ensures c.parting_after.ensures c.in-On.is
+loop-a-preserved c = check_loop_next c.loop-a.invariant c.loop-a-test.true c.end-e.ensures c.read.ensures
+    c.parting_after.ensures c.in_ok-parting.was
 
-pub returns-then-parting-eq0 : goal.returns-then-parting-eq0
-returns-then-parting-eq0 c = at_end_none _ _ _ c.if-parting-eq0.true ∙ check_loop_end c.loop-a.invariant
-    c.loop-a-test.false
+pub returns-in-Some : goal.returns-in-Some
+unfolding checked_at_end
+returns-in-Some c = rw c.in-Some.is at (check_loop_end c.loop-a.invariant c.loop-a-test.false)
 
-pub returns : goal.returns
-returns c = at_end_good _ _ _ c.if-parting-eq0.false ∙ check_loop_end c.loop-a.invariant
-    c.loop-a-test.false
+pub returns-in-None : goal.returns-in-None
+unfolding checked_at_end
+returns-in-None c = rw c.in-None.is at (check_loop_end c.loop-a.invariant c.loop-a-test.false)

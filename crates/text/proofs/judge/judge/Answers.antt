@@ -5,5 +5,5 @@ use Rattle.text.proofs.judge.judge.Goals as goal
 pub run-requires : goal.run-requires
 run-requires c = (search (rules, checked_good), (search (rules, checked_least), search (rules, checked_most)))
 
-pub returns-in-Faulty : goal.returns-in-Faulty
-returns-in-Faulty c = search (rules, judge_faulty)
+pub returns-in-Err : goal.returns-in-Err
+returns-in-Err c = search (rules, judge_faulty)

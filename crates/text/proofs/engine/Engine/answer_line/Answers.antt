@@ -3,4 +3,4 @@ use Rattle.text.proofs.engine.Engine.answer_line.Goals as goal
 
 pub returns-clause-answers : goal.returns-clause-answers
 returns-clause-answers c =
-    answer_line_ensures c.read-call.ensures c.respond-answer.ensures.responds c.write.ensures c.requires.1.0
+    answer_line_ensures c.read.ensures c.reply-answer.ensures.replies c.write.ensures c.requires.1.0
