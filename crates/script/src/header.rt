@@ -4,22 +4,25 @@ use text::{number, split};
 
 // The capacity in nodes and the length of the output in bytes.
 #[derive(Clone, Copy)]
-pub enum Header {
-    Bad,
-    Of(usize, usize),
+pub struct Header {
+    pub capacity: usize,
+    pub room: usize,
 }
 
-pub fn read(line: &[u8]) -> Header {
-    let a = 0;
-    let e = split::end(line, a, b'\t');
-    if e == line.len() {
-        return Header::Bad;
+// A field of the line.
+fn field(s: &[u8]) -> Option<usize> {
+    match number::read(s, 8) {
+        Number::Of(n) => Some(n),
+        Number::Malformed => None,
     }
-    let Number::Of(capacity) = number::read(&line[a..e], 8) else {
-        return Header::Bad;
-    };
-    let Number::Of(room) = number::read(&line[e + 1..], 8) else {
-        return Header::Bad;
-    };
-    Header::Of(capacity, room)
+}
+
+pub fn read(line: &[u8]) -> Option<Header> {
+    let e = split::end(line, 0, b'\t');
+    if e == line.len() {
+        return None;
+    }
+    let capacity = field(&line[..e])?;
+    let room = field(&line[e + 1..])?;
+    Some(Header { capacity, room })
 }
