@@ -46,5 +46,11 @@ pub fn run(stdout: Stdout, text: &[u8], store: &mut [u8], cache: &mut [u64]) -> 
         return println!(stdout; "bad header");
     }
     let mut out = [0u8; OUTPUT];
-    answer(stdout, text, &mut store[..16 * capacity], cache, &mut out[..room])
+    answer(
+        stdout,
+        text,
+        &mut store[..16 * capacity],
+        cache,
+        &mut out[..room],
+    )
 }

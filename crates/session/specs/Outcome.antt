@@ -34,7 +34,8 @@ pub record NothingRun (m : Memory) (e : Stopped) (s' : List ℕ) (r : Result Eng
 
 abbrev pub FinishRequires : Memory → Result SessionState Stopped → Type 0
 FinishRequires m (Ok h) = FeedRequires m h
-FinishRequires m (Err e) = ⊤
+FinishRequires m (Err (ReadFailed h)) = FeedRequires m h
+FinishRequires m (Err (Unwritten w)) = ⊤
 
 -- No more is read. Only an input that has ended is taken for a whole one; where it has not, or where a write has
 -- failed, nothing more is run.

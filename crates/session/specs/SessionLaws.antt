@@ -14,7 +14,8 @@ use Rattle.session.specs.declared.outcome.Stopped.TheVariants.{ReadFailed, Write
 
 finish_may : (text : Bytes) (m : Memory) (t : Result SessionState Stopped) → Received text m t → FinishRequires m t
 finish_may text m (Ok h) v = v.1.requires
-finish_may text m (Err e) v = tt
+finish_may text m (Err (ReadFailed h)) v = v.1.requires
+finish_may text m (Err (Unwritten w)) v = tt
 
 pub finish_requires : {m₀ : Memory} {h₀ : SessionState} {m : Memory} {t : Result SessionState Stopped}
     → ReceiveEnsures m₀ h₀ m t → FinishRequires m t

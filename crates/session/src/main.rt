@@ -45,12 +45,7 @@ fn session(
     outcome::finish(stdout, line, store, cache, received)
 }
 
-fn run(
-    input: Stdin,
-    stdout: Stdout,
-    store: &mut [u8],
-    cache: &mut [u64],
-) -> Result<Engine, Stopped>
+fn run(input: Stdin, stdout: Stdout, store: &mut [u8], cache: &mut [u64]) -> Result<Engine, Stopped>
     requires { capacity store.old ≡ 2048 }
     ensures { SessionEnsures store.new result }
 {
