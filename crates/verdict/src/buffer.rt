@@ -1,4 +1,5 @@
-// The buffer of the text.
+// The buffer of the text. Its methods stand in input.rt: their contracts name definitions about it, which may not be
+// imported where its ghost field is.
 ghost use Rattle.std.specs.Prelude.{◌≡◌, length};
 
 // The longest text: 1 MiB.

@@ -9,7 +9,6 @@ use stdin::ReadFailed;
 // How many bytes are read at once.
 const PART: usize = 4096;
 
-// In a file of its own, the struct does not wait for the definitions that its methods name.
 impl Buffer {
     // A byte that does not fit is counted once and not kept.
     fn put(&mut self, b: u8)

@@ -6,7 +6,8 @@ pub returns-in_err-engine : goal.returns-in_err-engine
 returns-in_err-engine c = feeds_lost (search rules) (search rules) (search rules) c.in_err-engine.ensures
 
 pub returns-then-b-eq10 : goal.returns-then-b-eq10
-returns-then-b-eq10 c = feeds_end (search rules) (search rules) (search rules) c.requires c.in_ok-engine.ensures c.none-squeeze.ensures
+returns-then-b-eq10 c =
+    feeds_end (search rules) (search rules) (search rules) c.requires c.in_ok-engine.ensures c.none-squeeze.ensures
 
 pub returns : goal.returns
 returns c = search (rules, feeds_byte)
