@@ -1,41 +1,34 @@
 // One text, and its verdict.
+use std::io;
 use std::io::{Print, Stdout};
 use text::limits::VERDICT_ROOM;
 use text::{judge, number, split};
 
-// What cannot be written is left out.
-pub fn word(stdout: Stdout, s: &[u8]) {
-    stdout.write_all(s).unwrap_or(());
-}
+// The longest text, with its first line.
+const TEXT: usize = 8192;
 
-fn show(stdout: Stdout, text: &[u8], store: &mut [u8], cache: &mut [u64], out: &mut [u8]) {
-    let v = judge::verdict(text, store, cache, out);
-    let a = 0;
-    let n = v.bytes;
-    word(stdout, &out[a..n]);
+// The capacity that the first line asks for, and the text after that line.
+fn header(text: &[u8]) -> Option<(usize, &[u8])> {
+    let e = split::end(text, 0, b'\n');
+    if e == text.len() {
+        return None;
+    }
+    let capacity = number::read(&text[..e], 8)?;
+    Some((capacity, &text[e + 1..]))
 }
 
 // The verdict is lent the first bytes of the store.
-fn lend(stdout: Stdout, text: &[u8], store: &mut [u8], cache: &mut [u64], capacity: usize) {
+pub fn run(stdout: Stdout, text: &[u8], store: &mut [u8], cache: &mut [u64]) -> io::Result<()> {
+    if TEXT < text.len() {
+        return println!(stdout; "too long");
+    }
+    let Some((capacity, text)) = header(text) else {
+        return println!(stdout; "bad capacity");
+    };
     if store.len() / 16 < capacity {
-        word(stdout, b"bad capacity\n");
-        return;
+        return println!(stdout; "bad capacity");
     }
     let mut out = [0u8; VERDICT_ROOM];
-    let a = 0;
-    let bytes = 16 * capacity;
-    show(stdout, text, &mut store[a..bytes], cache, &mut out);
-}
-
-pub fn run(stdout: Stdout, text: &[u8], store: &mut [u8], cache: &mut [u64]) {
-    let a = 0;
-    let e = split::end(text, a, b'\n');
-    if e == text.len() {
-        word(stdout, b"bad capacity\n");
-        return;
-    }
-    match number::read(&text[a..e], 8) {
-        Some(capacity) => lend(stdout, &text[e + 1..], store, cache, capacity),
-        None => word(stdout, b"bad capacity\n"),
-    }
+    let v = judge::verdict(text, &mut store[..16 * capacity], cache, &mut out);
+    stdout.write_all(&out[..v.bytes])
 }

@@ -81,10 +81,9 @@ fn pass(store: &mut [u8], cache: &mut [u64], s: State) -> State
     t
 }
 
+// What cannot be written is left out.
 fn print(stdout: Stdout, s: State) {
-    let count = s.count;
-    // What cannot be written is left out.
-    println!(stdout; "{count}").unwrap_or(());
+    println!(stdout; "{}", s.count).unwrap_or(());
 }
 
 fn run(stdout: Stdout, store: &mut [u8], cache: &mut [u64]) {

@@ -9,38 +9,25 @@ use diagram::make::State;
 use diagram::node::{Assignment, Edge};
 use diagram::registers::RegisterNumber;
 use diagram::value;
-use std::io::{Print, Stdout};
+use std::io::Stdout;
 
-// What cannot be written is left out.
-fn word(stdout: Stdout, s: &[u8]) {
-    stdout.write_all(s).unwrap_or(());
-}
-
-fn number(stdout: Stdout, before: &[u8], n: u64) {
-    word(stdout, before);
-    print!(stdout; "{n}").unwrap_or(());
-}
-
-// The value at assignment v.
-fn at(stdout: Stdout, store: &[u8], s: State, e: Edge, v: Assignment)
+// The values at assignments. What cannot be written is left out, here and below.
+fn values_at(stdout: Stdout, store: &[u8], s: State, e: Edge, at: &[Assignment])
     requires { Sound store.now s × Valid s.count e }
 {
-    let w = value::value(store, s, e, v);
-    number(stdout, b" ", w);
+    print!(stdout; "values").unwrap_or(());
+    for v in at {
+        print!(stdout; " {}", value::value(store, s, e, *v)).unwrap_or(());
+    }
+    println!(stdout; "").unwrap_or(());
 }
 
 // The weight and the node, and the values where middle and fresh of qubit 0 are 00, 10, 01 and 11.
 fn line(stdout: Stdout, store: &[u8], s: State, e: Edge)
     requires { Sound store.now s × Valid s.count e }
 {
-    number(stdout, b"weight ", e.weight);
-    number(stdout, b" node ", e.node as u64);
-    word(stdout, b" values");
-    at(stdout, store, s, e, 0);
-    at(stdout, store, s, e, 2);
-    at(stdout, store, s, e, 4);
-    at(stdout, store, s, e, 6);
-    word(stdout, b"\n");
+    print!(stdout; "weight {} node {} ", e.weight, e.node).unwrap_or(());
+    values_at(stdout, store, s, e, &[0, 2, 4, 6]);
 }
 
 // Register i, if it is filled.
@@ -56,11 +43,11 @@ pub fn register(stdout: Stdout, store: &[u8], run: Run, i: RegisterNumber)
 }
 
 pub fn count(stdout: Stdout, run: Run) {
-    number(stdout, b"nodes ", run.state.count as u64);
-    word(stdout, b"\n");
+    println!(stdout; "nodes {}", run.state.count).unwrap_or(());
 }
 
-// The values of register 0 at chosen inputs and outputs of 8 qubits.
+// The values of register 0 at chosen inputs and outputs of 8 qubits: all inputs 0 and all outputs 0; outputs 1; input 1
+// on qubit 0; both; outputs 1 but on qubit 7; all 1.
 pub fn values(stdout: Stdout, store: &[u8], run: Run)
     requires { Sound store.now run.state × RegistersValid run.state.count run.registers.all }
 {
@@ -68,19 +55,11 @@ pub fn values(stdout: Stdout, store: &[u8], run: Run)
     let Some(e) = run.registers.get(0) else {
         return;
     };
-    word(stdout, b"values");
-    chosen(stdout, store, s, e);
-    word(stdout, b"\n");
-}
-
-// All inputs 0 and all outputs 0; outputs 1; input 1 on qubit 0; both; outputs 1 but on qubit 7; all 1.
-fn chosen(stdout: Stdout, store: &[u8], s: State, e: Edge)
-    requires { Sound store.now s × Valid s.count e }
-{
-    at(stdout, store, s, e, 0);
-    at(stdout, store, s, e, 4793490);
-    at(stdout, store, s, e, 1);
-    at(stdout, store, s, e, 4793491);
-    at(stdout, store, s, e, 599186);
-    at(stdout, store, s, e, 7190235);
+    values_at(
+        stdout,
+        store,
+        s,
+        e,
+        &[0, 4793490, 1, 4793491, 599186, 7190235],
+    );
 }

@@ -3,22 +3,17 @@ use text::{number, split};
 
 // The capacity in nodes and the length of the output in bytes.
 #[derive(Clone, Copy)]
-pub enum Header {
-    Bad,
-    Of(usize, usize),
+pub struct Header {
+    pub capacity: usize,
+    pub room: usize,
 }
 
-pub fn read(line: &[u8]) -> Header {
-    let a = 0;
-    let e = split::end(line, a, b'\t');
+pub fn read(line: &[u8]) -> Option<Header> {
+    let e = split::end(line, 0, b'\t');
     if e == line.len() {
-        return Header::Bad;
+        return None;
     }
-    let Some(capacity) = number::read(&line[a..e], 8) else {
-        return Header::Bad;
-    };
-    let Some(room) = number::read(&line[e + 1..], 8) else {
-        return Header::Bad;
-    };
-    Header::Of(capacity, room)
+    let capacity = number::read(&line[..e], 8)?;
+    let room = number::read(&line[e + 1..], 8)?;
+    Some(Header { capacity, room })
 }

@@ -1,5 +1,5 @@
 -- What answering one line of a session asks for and promises.
-use Rattle.std.specs.Prelude.{◌≡◌, ◌≢◌, List, [], ◌∷◌, ℕ, ◌≤◌, length, take}
+use Rattle.std.specs.Prelude.{◌≡◌, ◌≢◌, List, [], ◌∷◌, ℕ, ◌≤◌, length, take, Result, Ok, Err}
 use Rattle.diagram.specs.Tensor.{indices}
 use Rattle.diagram.specs.Node.{capacity}
 use Rattle.diagram.specs.Invariant.{Invariant}
@@ -13,6 +13,7 @@ use Rattle.text.specs.declared.engine.Engine.{Engine}
 use Rattle.text.specs.declared.progress.Progress.{Progress}
 use Rattle.text.specs.declared.squeeze.Squeeze.{Squeeze}
 use Rattle.text.specs.Limits.{line_room}
+use Rattle.session.specs.declared.answer.WriteFailed.{WriteFailed}
 
 -- the session's memory: the buffer of the line that comes, the cache's words, the store's bytes
 pub record Memory : Type 0 where
@@ -37,6 +38,11 @@ pub data NoLf : Bytes → Type 0 where
 -- what the tally that the engine holds answers to a line, and the tally after it
 abbrev pub reply_to : Bytes → List ℕ → Engine → TallyReply indices
 reply_to seen s e = answer_read (at_most (capacity s)) (read_line seen) (tally_of s e)
+
+-- the engine after a line, its answer written or not
+abbrev pub engine_of : Result Engine WriteFailed → Engine
+engine_of (Ok e) = e
+engine_of (Err w) = w.engine
 
 -- Whatever line was squeezed into the buffer, the engine holds the tally after it.
 pub record AnswerEnsures (m : Memory) (q : Squeeze) (e : Engine) (m' : Memory) (r : Engine) : Type 0 where

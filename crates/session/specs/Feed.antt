@@ -1,15 +1,16 @@
 -- What taking in bytes promises: the input's lines are run, but for the bytes after its last LF; after the first answer
 -- that could not be written none is.
-use Rattle.std.specs.Prelude.{◌≡◌, true, false, List, ◌++◌, ℕ, ◌+◌, ◌≤◌, ◌<◌, length, take}
+use Rattle.std.specs.Prelude.{◌≡◌, List, ◌++◌, ℕ, ◌+◌, ◌≤◌, ◌<◌, length, Result, Ok, Err}
 use Rattle.diagram.specs.Node.{capacity}
+use Rattle.diagram.specs.Invariant.{Invariant}
 use Rattle.text.specs.Text.{Bytes, lines}
 use Rattle.text.specs.Session.{at_most, empty_run, run}
 use Rattle.text.specs.Squeeze.{SqueezeInvariant}
 use Rattle.text.specs.Engine.{tally_of}
 use Rattle.text.specs.declared.engine.Engine.{Engine}
 use Rattle.text.specs.declared.squeeze.Squeeze.{Squeeze}
-use Rattle.session.specs.Answer.{Memory, AnswerRequires, NoLf}
-use Rattle.session.specs.declared.answer.LineResult.{LineResult}
+use Rattle.session.specs.Answer.{Memory, AnswerRequires, NoLf, engine_of}
+use Rattle.session.specs.declared.answer.WriteFailed.{WriteFailed}
 use Rattle.session.specs.declared.feed.SessionState.{SessionState}
 use Rattle.text.specs.Limits.{answer_room}
 
@@ -48,36 +49,40 @@ pub record PartialLine (seen line : Bytes) (q : Squeeze) : Type 0 where
 abbrev pub FeedRequires : Memory → SessionState → Type 0
 FeedRequires m h = AnswerRequires m h.squeeze h.engine
 
--- What holds between two bytes: a text was taken in, and n of its lines were run. While every answer is written, what
--- is behind them is the line that has not ended.
+-- What holds between two bytes: a text was taken in, and n of its lines were run. What is behind them is the line that
+-- has not ended.
 pub record FeedInvariant (text : Bytes) (n : ℕ) (m : Memory) (h : SessionState) : Type 0 where
   pub requires : FeedRequires m h
   pub to : AfterLinesBefore text m.store h.engine
   pub count : length to.done ≡ n
-  pub seen : h.written ≡ true → PartialLine to.behind m.line h.squeeze
+  pub seen : PartialLine to.behind m.line h.squeeze
 
--- .. and after more bytes. The line whose answer could not be written was run.
-pub record FeedProgress (text : Bytes) (n : ℕ) (h : SessionState) (m' : Memory) (r : SessionState) : Type 0 where
+-- .. and after more bytes.
+pub record FeedProgress (text : Bytes) (n : ℕ) (m' : Memory) (r : SessionState) : Type 0 where
   pub lines : ℕ
   pub invariant : FeedInvariant text lines m' r
   pub more : n ≤ lines
-  pub lost : h.written ≡ true → r.written ≡ false → n < lines
+
+-- The line whose answer could not be written was run, and none after it.
+pub record FeedLost (text : Bytes) (n : ℕ) (m' : Memory) (e : Engine) : Type 0 where
+  pub invariant : Invariant m'.cache m'.store e.state e.registers.all
+  pub to : AfterLinesBefore text m'.store e
+  pub lost : n < length to.done
+
+abbrev pub FeedOutcome : Bytes → ℕ → Memory → Result SessionState WriteFailed → Type 0
+FeedOutcome text n m' (Ok r) = FeedProgress text n m' r
+FeedOutcome text n m' (Err w) = FeedLost text n m' w.engine
+
+abbrev pub FeedFits : Memory → Result SessionState WriteFailed → Type 0
+FeedFits m' (Ok r) = FeedRequires m' r
+FeedFits m' (Err w) = Invariant m'.cache m'.store w.engine.state w.engine.registers.all
 
 -- The bytes that come next are taken in; after a failed write nothing is run any more.
-pub record FeedEnsures (part : Bytes) (m : Memory) (h : SessionState) (m' : Memory) (r : SessionState) : Type 0 where
-  pub requires : FeedRequires m' r
-  pub on : (text : Bytes) (n : ℕ) → FeedInvariant text n m h → FeedProgress (text ++ part) n h m' r
-  pub stays : h.written ≡ false → r ≡ h
-  pub store : h.written ≡ false → m'.store ≡ m.store
+pub record FeedEnsures (part : Bytes) (m : Memory) (h : SessionState) (m' : Memory)
+    (r : Result SessionState WriteFailed) : Type 0 where
+  pub fits : FeedFits m' r
+  pub on : (text : Bytes) (n : ℕ) → FeedInvariant text n m h → FeedOutcome (text ++ part) n m' r
 
 -- The input has ended, and all its lines are run: "A text is split at LF; a last part without LF counts unless empty".
-pub record LastEnsures (m : Memory) (h : SessionState) (s' : List ℕ) (r : LineResult) : Type 0 where
-  pub all : (text : Bytes) (n : ℕ) → FeedInvariant text n m h → AfterLines (lines text) s' r.engine
-
--- used by the proofs alone
-
--- the loop over a part: i of its bytes are taken in
-pub record FeedLoop (part : Bytes) (m₀ : Memory) (h₀ : SessionState) (i : ℕ) (m : Memory)
-    (h : SessionState) : Type 0 where
-  pub within : i ≤ length part
-  pub feeds : FeedEnsures (take i part) m₀ h₀ m h
+pub record LastEnsures (m : Memory) (h : SessionState) (s' : List ℕ) (r : Result Engine WriteFailed) : Type 0 where
+  pub all : (text : Bytes) (n : ℕ) → FeedInvariant text n m h → AfterLines (lines text) s' (engine_of r)

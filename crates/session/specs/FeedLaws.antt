@@ -1,8 +1,8 @@
 -- Bytes taken in one after the other, and the input's last line.
 use Rattle.std.specs.Prelude.{◌≡◌, refl, ◌≢◌, Bool, true, false, cond, List, [], ◌∷◌, ◌++◌, ℕ, ◌+◌, ◌≤◌, ◌<◌, eqb}
-use Rattle.std.specs.Prelude.{length, take, get_or}
-use Rattle.std.proofs.Common.{ap, sym, ◌∙◌, append-nil, append_assoc, add-one, arith, ne_eqb, le-leb, length-append}
-use Rattle.std.proofs.Common.{take-suc, take_all, length-take-le}
+use Rattle.std.specs.Prelude.{length, take, drop, get_or, Result, Ok, Err}
+use Rattle.std.proofs.Common.{sym, ◌∙◌, append-nil, append_assoc, add-one, arith, ne_eqb, le-leb, length-append}
+use Rattle.std.proofs.Common.{take-suc, length-take-le, take-append-drop}
 use Rattle.diagram.specs.Node.{capacity}
 use Rattle.text.specs.Text.{Bytes, LF, tab, lines, parts, onto}
 use Rattle.text.specs.Answer.{printed}
@@ -12,11 +12,11 @@ use Rattle.text.specs.Engine.{tally_of, EngineStartEnsures}
 use Rattle.text.specs.SessionLaws.{run_append}
 use Rattle.text.specs.declared.engine.Engine.{Engine}
 use Rattle.text.specs.declared.squeeze.Squeeze.{Squeeze}
-use Rattle.session.specs.Answer.{Memory, memory, NoLf, none, byte, reply_to, AnswerEnsures}
+use Rattle.session.specs.Answer.{Memory, memory, NoLf, none, byte, reply_to, engine_of, AnswerEnsures}
 use Rattle.session.specs.AnswerLaws.{line_first}
-use Rattle.session.specs.Feed.{AfterLines, AfterFirstLines, AfterLinesBefore, FeedRequires, FeedEnsures}
-use Rattle.session.specs.Feed.{LastEnsures, FeedLoop}
-use Rattle.session.specs.declared.answer.LineResult.{LineResult}
+use Rattle.session.specs.Feed.{AfterLines, AfterFirstLines, AfterLinesBefore, FeedRequires, FeedInvariant}
+use Rattle.session.specs.Feed.{FeedEnsures, LastEnsures}
+use Rattle.session.specs.declared.answer.WriteFailed.{WriteFailed}
 use Rattle.session.specs.declared.feed.SessionState.{SessionState}
 use Rattle.text.specs.Limits.{answer_room}
 
@@ -78,156 +78,142 @@ after_more {ls} {s} {s'} {e} {n} l k r t = record {
       );
 }
 
--- behind the lines that were run, one byte more
-abbrev before_more : {text : Bytes} {s : List ℕ} {e : Engine} (b : ℕ) → AfterLinesBefore text s e
-    → AfterLinesBefore (text ++ (b ∷ [])) s e
+-- behind the lines that were run, more bytes
+abbrev before_more : {text : Bytes} {s : List ℕ} {e : Engine} (more : Bytes) → AfterLinesBefore text s e
+    → AfterLinesBefore (text ++ more) s e
 before_more {text} b f = record {
   done = f.done;
-  behind = f.behind ++ (b ∷ []);
-  split = λ rest. rw (append_assoc text (b ∷ []) rest, append_assoc f.behind (b ∷ []) rest) (f.split (b ∷ rest));
+  behind = f.behind ++ b;
+  split = λ rest. rw (append_assoc text b rest, append_assoc f.behind b rest) (f.split (b ++ rest));
   ran = f.ran;
 }
 
 -- one byte: a line's end, or a byte of a line
 
+-- the line that has come is run
+abbrev line_ends : {m : Memory} {text : Bytes} {n : ℕ} {h : SessionState} {c' s' line' : List ℕ} {e : Engine}
+    → FeedInvariant text n m h → length s' ≡ length m.store
+    → AnswerEnsures m h.squeeze h.engine (memory line' c' s') e → AfterLinesBefore (text ++ (LF ∷ [])) s' e
+line_ends {text = text} f k a =
+    let v = f.seen in
+    record {
+      done = f.to.done ++ (f.to.behind ∷ []);
+      behind = [];
+      split = λ rest.
+          rw (
+            append_assoc text (LF ∷ []) rest,
+            f.to.split (LF ∷ rest),
+            line_first rest v.unbroken,
+            append_assoc f.to.done (f.to.behind ∷ []) (lines rest),
+          );
+      ran = after_more f.to.behind k f.to.ran (a.tally f.to.behind v.unbroken v.squeezing);
+    }
+
 module _ {line c s : List ℕ} {h : SessionState} where
-  pub feeds_end : {line' c' s' : List ℕ} {b : ℕ} {q : Squeeze} {t : LineResult} → h.written ≡ true → b ≡ LF
+  pub feeds_end : {line' c' s' : List ℕ} {b : ℕ} {q : Squeeze} {e : Engine} → b ≡ LF
       → length line' ≡ length line → length s' ≡ length s → FeedRequires (memory line c s) h
-      → AnswerEnsures (memory line c s) h.squeeze h.engine (memory line' c' s') t.engine → NoneEnsures q
-      → FeedEnsures (b ∷ []) (memory line c s) h (memory line' c' s')
-      (record { squeeze = q; engine = t.engine; written = t.written })
-  feeds_end {line'} {c'} {s'} {b} {q} {t} w z m k r a g = rw z (record {
-    requires = after;
-    on = λ text n f.
-        let v = f.seen w in
-        record {
-          lines = n + 1;
-          invariant = record {
-            requires = after;
-            to = record {
-              done = f.to.done ++ (f.to.behind ∷ []);
-              behind = [];
-              split = λ rest.
-                  rw (
-                    append_assoc text (LF ∷ []) rest,
-                    f.to.split (LF ∷ rest),
-                    line_first rest v.unbroken,
-                    append_assoc f.to.done (f.to.behind ∷ []) (lines rest),
-                  );
-              ran = after_more f.to.behind k f.to.ran (a.tally f.to.behind v.unbroken v.squeezing);
-            };
-            count = length-append f.to.done (f.to.behind ∷ []) ∙ (rw f.count);
-            seen = λ o. record { unbroken = none; squeezing = g.start line' };
-          };
-          more = omega arith;
-          lost = λ o p. omega arith;
-        };
-    stays = λ o. absurd (let i : ◌≡◌ {A = ℕ} 0 1 = cc in omega arith);
-    store = λ o. absurd (let i : ◌≡◌ {A = ℕ} 0 1 = cc in omega arith);
+      → AnswerEnsures (memory line c s) h.squeeze h.engine (memory line' c' s') e → NoneEnsures q
+      → FeedEnsures (b ∷ []) (memory line c s) h (memory line' c' s') (Ok (record { squeeze = q; engine = e }))
+  feeds_end {line'} {c'} {s'} {b} {q} {e} z m k r a g = rw z (record {
+    fits = after;
+    on = λ text n f. record {
+      lines = n + 1;
+      invariant = record {
+        requires = after;
+        to = line_ends f k a;
+        count = length-append f.to.done (f.to.behind ∷ []) ∙ (rw f.count);
+        seen = record { unbroken = none; squeezing = g.start line' };
+      };
+      more = omega arith;
+    };
   })
     where
-      after : FeedRequires (memory line' c' s') (record { squeeze = q; engine = t.engine; written = t.written })
+      after : FeedRequires (memory line' c' s') (record { squeeze = q; engine = e })
       after = record { room = omega (arith, r.room, m); fits = g.fits; invariant = a.invariant }
 
-  pub feeds_byte : {line' : List ℕ} {b : ℕ} {q : Squeeze} → h.written ≡ true → b ≢ LF
-      → FeedRequires (memory line c s) h → PushEnsures line h.squeeze b line' q
-      → FeedEnsures (b ∷ []) (memory line c s) h (memory line' c s)
-      (record { squeeze = q; engine = h.engine; written = h.written })
-  feeds_byte {line'} {b} {q} w z k p = record {
-    requires = after;
-    on = λ text n f.
-        let v = f.seen w in
-        record {
-          lines = n;
-          invariant = record {
-            requires = after;
-            to = before_more b f.to;
-            count = f.count;
-            seen =
-                λ o. record { unbroken = no_LF_more v.unbroken z; squeezing = p.on f.to.behind v.squeezing };
-          };
-          more = omega arith;
-          lost = λ o q. absurd (let i : ◌≡◌ {A = ℕ} 0 1 = cc in omega arith);
-        };
-    stays = λ o. absurd (let i : ◌≡◌ {A = ℕ} 0 1 = cc in omega arith);
-    store = λ o. refl;
-  }
-    where
-      after : FeedRequires (memory line' c s) (record { squeeze = q; engine = h.engine; written = h.written })
-      after = record { room = omega (arith, k.room, p.room); fits = p.fits; invariant = k.invariant }
+  pub feeds_lost : {line' c' s' : List ℕ} {b : ℕ} {w : WriteFailed} {r : Result SessionState WriteFailed} → r ≡ Err w
+      → b ≡ LF → length s' ≡ length s
+      → AnswerEnsures (memory line c s) h.squeeze h.engine (memory line' c' s') w.engine
+      → FeedEnsures (b ∷ []) (memory line c s) h (memory line' c' s') r
+  feeds_lost p z k a = rw (p, z) (record {
+    fits = a.invariant;
+    on = λ text n f. record {
+      invariant = a.invariant;
+      to = line_ends f k a;
+      lost = omega (arith, f.count, length-append f.to.done (f.to.behind ∷ []));
+    };
+  })
 
-  -- a write has failed
-  pub feeds_lost : {b : ℕ} → h.written ≡ false → FeedRequires (memory line c s) h
-      → FeedEnsures (b ∷ []) (memory line c s) h (memory line c s) h
-  feeds_lost {b} w k = record {
-    requires = k;
+  pub feeds_byte : {line' : List ℕ} {b : ℕ} {q : Squeeze} → b ≢ LF
+      → FeedRequires (memory line c s) h → PushEnsures line h.squeeze b line' q
+      → FeedEnsures (b ∷ []) (memory line c s) h (memory line' c s) (Ok (record { squeeze = q; engine = h.engine }))
+  feeds_byte {line'} {b} {q} z k p = record {
+    fits = after;
     on = λ text n f. record {
       lines = n;
       invariant = record {
-        requires = k;
-        to = before_more b f.to;
+        requires = after;
+        to = before_more (b ∷ []) f.to;
         count = f.count;
-        seen = λ o. absurd (let i : ◌≡◌ {A = ℕ} 0 1 = cc in omega arith);
+        seen = record { unbroken = no_LF_more f.seen.unbroken z; squeezing = p.on f.to.behind f.seen.squeezing };
       };
       more = omega arith;
-      lost = λ o q. absurd (let i : ◌≡◌ {A = ℕ} 0 1 = cc in omega arith);
-    };
-    stays = λ o. refl;
-    store = λ o. refl;
-  }
-
--- the loop over a part
-
-pub feed_start : {part : Bytes} {m : Memory} {h : SessionState} → FeedRequires m h → FeedLoop part m h 0 m h
-feed_start k = record {
-  within = omega arith;
-  feeds = record {
-    requires = k;
-    on = λ text n f. record {
-      lines = n;
-      invariant = rw (append-nil text) f;
-      more = omega arith;
-      lost = λ o q. absurd (let i : ◌≡◌ {A = ℕ} 0 1 = cc in omega arith);
-    };
-    stays = λ o. refl;
-    store = λ o. refl;
-  };
-}
-
-module _ {part : Bytes} {m₀ : Memory} {h₀ : SessionState} {i : ℕ} {m : Memory} {h : SessionState}
-    (g : FeedLoop part m₀ h₀ i m h) where
-  pub feed_step : {m' : Memory} {r : SessionState} → i < length part → FeedEnsures (get_or part i 0 ∷ []) m h m' r
-      → FeedLoop part m₀ h₀ (i + 1) m' r
-  feed_step l b = record {
-    within = omega arith;
-    feeds = record {
-      requires = b.requires;
-      on = λ text n f.
-          let x = g.feeds.on text n f in
-          let y = b.on (text ++ take i part) x.lines x.invariant in
-          record {
-            lines = y.lines;
-            invariant =
-                rw (add-one i, take-suc part i 0 l, ← append_assoc text (take i part) (get_or part i 0 ∷ []))
-                y.invariant;
-            more = omega (arith, x.more, y.more);
-            lost = λ o q. more_lost h.written refl (x.lost o) (λ w. y.lost w q) x.more y.more;
-          };
-      stays = λ o. b.stays (unwritten o) ∙ g.feeds.stays o;
-      store = λ o. b.store (unwritten o) ∙ g.feeds.store o;
     };
   }
     where
-      more_lost : {n m k : ℕ} (w : Bool) → h.written ≡ w → (h.written ≡ false → n < m) → (h.written ≡ true → m < k)
-          → n ≤ m → m ≤ k → n < k
-      more_lost true e p q x y = omega (arith, q e)
-      more_lost false e p q x y = omega (arith, p e)
+      after : FeedRequires (memory line' c s) (record { squeeze = q; engine = h.engine })
+      after = record { room = omega (arith, k.room, p.room); fits = p.fits; invariant = k.invariant }
 
-      unwritten : h₀.written ≡ false → h.written ≡ false
-      unwritten o = ap (λ (x : SessionState). x.written) (g.feeds.stays o) ∙ o
+-- the loop over a part
 
-  pub feed_end : length part ≤ i → FeedEnsures part m₀ h₀ m h
-  feed_end l = rw (take_all i part l) at g.feeds
+pub feed_start : {m : Memory} {h : SessionState} → FeedRequires m h → FeedEnsures [] m h m (Ok h)
+feed_start k = record {
+  fits = k;
+  on = λ text n f. record { lines = n; invariant = rw (append-nil text) f; more = omega arith };
+}
+
+-- bytes after bytes
+feeds_then : {p q : Bytes} {m m' m'' : Memory} {h h' : SessionState} (r : Result SessionState WriteFailed)
+    → FeedEnsures p m h m' (Ok h') → FeedEnsures q m' h' m'' r → FeedEnsures (p ++ q) m h m'' r
+feeds_then {p} {q} (Ok _) f g = record {
+  fits = g.fits;
+  on = λ text n v.
+      let x = f.on text n v in
+      let y = g.on (text ++ p) x.lines x.invariant in
+      record {
+        lines = y.lines;
+        invariant = rw (← append_assoc text p q) y.invariant;
+        more = omega (arith, x.more, y.more);
+      };
+}
+feeds_then {p} {q} (Err _) f g = record {
+  fits = g.fits;
+  on = λ text n v.
+      let x = f.on text n v in
+      let y = g.on (text ++ p) x.lines x.invariant in
+      rw (← append_assoc text p q) (record { invariant = y.invariant; to = y.to; lost = omega (arith, x.more, y.lost) });
+}
+
+-- bytes after an answer that could not be written
+feeds_no_more : {p : Bytes} {m m' : Memory} {h : SessionState} {w : WriteFailed} (q : Bytes)
+    → FeedEnsures p m h m' (Err w) → FeedEnsures (p ++ q) m h m' (Err w)
+feeds_no_more {p} q f = record {
+  fits = f.fits;
+  on = λ text n v.
+      let x = f.on text n v in
+      rw (← append_assoc text p q) (record { invariant = x.invariant; to = before_more q x.to; lost = x.lost });
+}
+
+module _ (part : Bytes) {m m' m'' : Memory} {h h' : SessionState} {i : ℕ} (l : i < length part)
+    (f : FeedEnsures (take i part) m h m' (Ok h')) where
+  pub feed_step : {r : Result SessionState WriteFailed} → FeedEnsures (get_or part i 0 ∷ []) m' h' m'' r
+      → FeedEnsures (take (i + 1) part) m h m'' r
+  feed_step {r} g = rw (add-one i, take-suc part i 0 l) (feeds_then r f g)
+
+  pub feed_lost : {w : WriteFailed} {r : Result SessionState WriteFailed} → r ≡ Err w
+      → FeedEnsures (get_or part i 0 ∷ []) m' h' m'' (Err w)
+      → FeedEnsures part m h m'' r
+  feed_lost p g = rw p (rw (take-append-drop (i + 1) part) at (feeds_no_more (drop (i + 1) part) (feed_step g)))
 
 -- the input's end
 
@@ -243,11 +229,10 @@ pub first_all : {text : Bytes} {s : List ℕ} {e : Engine} → AfterLines (lines
 first_all {text} r = record { done = lines text; others = []; split = sym (append-nil (lines text)); ran = r }
 
 module _ {line c s : List ℕ} {h : SessionState} where
-  pub last_none : h.written ≡ true → h.squeeze.length ≤ 0
-      → LastEnsures (memory line c s) h s (record { engine = h.engine; written = true })
-  last_none w z = record {
+  pub last_none : h.squeeze.length ≤ 0 → LastEnsures (memory line c s) h s (Ok h.engine)
+  last_none z = record {
     all = λ text n f.
-        let v = f.seen w in
+        let v = f.seen in
         let k : length (squeezed f.to.behind) ≤ 0 =
         rw (← v.squeezing.kept) (omega (arith, length-take-le h.squeeze.length line (omega arith))) in
         let e : lines text ≡ f.to.done =
@@ -256,13 +241,13 @@ module _ {line c s : List ℕ} {h : SessionState} where
         rw e f.to.ran;
   }
 
-  pub last_line : {line' c' s' : List ℕ} {t : LineResult} → h.written ≡ true → 0 < h.squeeze.length
+  pub last_line : {line' c' s' : List ℕ} {r : Result Engine WriteFailed} → 0 < h.squeeze.length
       → length s' ≡ length s → FeedRequires (memory line c s) h
-      → AnswerEnsures (memory line c s) h.squeeze h.engine (memory line' c' s') t.engine
-      → LastEnsures (memory line c s) h s' t
-  last_line w z n k a = record {
+      → AnswerEnsures (memory line c s) h.squeeze h.engine (memory line' c' s') (engine_of r)
+      → LastEnsures (memory line c s) h s' r
+  last_line z n k a = record {
     all = λ text m f.
-        let v = f.seen w in
+        let v = f.seen in
         let q = k.fits in
         let b : length (take h.squeeze.length line) ≡ h.squeeze.length =
         length-take-le _ line (omega (arith, q.tabs, q.width, q.short, k.room)) in

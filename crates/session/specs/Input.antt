@@ -1,28 +1,29 @@
 -- What reading standard input promises. Which bytes a read hands over no contract can say, so they are any; what was
 -- done with them is said, read after read.
-use Rattle.std.specs.Prelude.{◌≡◌, Bool, true, ◌&&◌, ℕ, length, take}
-use Rattle.stdin.specs.Stdin.{is_more, PossibleRead}
+use Rattle.std.specs.Prelude.{◌≡◌, ℕ, suc, length, take, Result, Ok, Err}
+use Rattle.stdin.specs.Stdin.{PossibleRead}
 use Rattle.stdin.specs.Star.{Star}
-use Rattle.stdin.specs.declared.Next.TheVariants.{More}
-use Rattle.stdin.specs.declared.ReadResult.{ReadResult}
 use Rattle.text.specs.Text.{Bytes}
 use Rattle.session.specs.Answer.{Memory}
-use Rattle.session.specs.Feed.{FeedInvariant, FeedEnsures}
+use Rattle.session.specs.Feed.{AfterLinesBefore, FeedInvariant, FeedEnsures}
+use Rattle.session.specs.declared.answer.WriteFailed.{WriteFailed}
 use Rattle.session.specs.declared.feed.SessionState.{SessionState}
 use Rattle.session.specs.declared.input.AfterRead.{AfterRead}
+use Rattle.session.specs.declared.outcome.Stopped.{Stopped}
+use Rattle.session.specs.declared.outcome.Stopped.TheVariants.{ReadFailed, WriteFailed as Unwritten}
 
--- the bytes that came were taken in, all and in order
-pub record TakeEnsures (result : ReadResult) (part : Bytes) (m : Memory) (h : SessionState) (m' : Memory)
-    (r : AfterRead) : Type 0 where
-  pub next : r.next ≡ result.next
-  pub feeds : FeedEnsures (take result.count part) m h m' r.state
-
--- a read, whatever it answered and put into its buffer
-pub record ReadEnsures (m : Memory) (h : SessionState) (m' : Memory) (r : AfterRead) : Type 0 where
-  pub result : ReadResult
+-- the bytes that came, so many and whatever a read put into its buffer, were taken in, all and in order
+pub record TakeEnsures (count : ℕ) (m : Memory) (h : SessionState) (m' : Memory)
+    (r : Result SessionState WriteFailed) : Type 0 where
   pub part : Bytes
-  pub possible : PossibleRead (length part) result
-  pub takes : TakeEnsures result part m h m' r
+  pub possible : PossibleRead (length part) (Ok count)
+  pub feeds : FeedEnsures (take count part) m h m' r
+
+-- a read; where it failed nothing was taken in
+abbrev pub ReadEnsures : Memory → SessionState → Memory → Result AfterRead Stopped → Type 0
+ReadEnsures m h m' (Ok t) = TakeEnsures t.count m h m' (Ok t.state)
+ReadEnsures m h m' (Err (Unwritten w)) = (count : ℕ) × TakeEnsures count m h m' (Err w)
+ReadEnsures m h m' (Err (ReadFailed k)) = (k ≡ h) × (m' ≡ m)
 
 -- what holds between two reads: some input was taken in
 pub record InputInvariant (m : Memory) (h : SessionState) : Type 0 where
@@ -30,28 +31,47 @@ pub record InputInvariant (m : Memory) (h : SessionState) : Type 0 where
   pub lines : ℕ
   pub invariant : FeedInvariant text lines m h
 
--- only after bytes that came, and where every answer was written, is more read
-abbrev pub reads_more : AfterRead → Bool
-reads_more after = is_more after.next && after.state.written
-
--- the memory after a read, what it left, and what it said of what comes next
+-- the memory after a read, and what it left
 pub record Point : Type 0 where
   pub memory : Memory
-  pub after : AfterRead
+  pub state : SessionState
 
--- before any read
-abbrev pub starting_point : Memory → SessionState → Point
-starting_point m h = record { memory = m; after = record { state = h; next = More } }
-
--- one read more
+-- one read more: it brought bytes, and every answer was written
 pub record ReadStep (a b : Point) : Type 0 where
-  pub reads_more_lem : reads_more a.after ≡ true
-  pub read : ReadEnsures a.memory a.after.state b.memory b.after
+  pub more : ℕ
+  pub read : ReadEnsures a.memory a.state b.memory (Ok (record { count = suc more; state = b.state }))
 
--- Read after read, each after one that brought bytes and whose answers were all written.
-abbrev pub Reads : Memory → SessionState → Memory → AfterRead → Type 0
-Reads m₀ h₀ m r = Star ReadStep (starting_point m₀ h₀) (record { memory = m; after = r })
+-- After them came the read that said that the input has ended; or one that failed or whose answers could not all be
+-- written.
+abbrev pub LastRead : Point → Memory → Result SessionState Stopped → Type 0
+LastRead a m (Ok h) = ReadEnsures a.memory a.state m (Ok (record { count = 0; state = h }))
+LastRead a m (Err e) = ReadEnsures a.memory a.state m (Err e)
 
-pub record ReceiveEnsures (m₀ : Memory) (h₀ : SessionState) (m : Memory) (r : AfterRead) : Type 0 where
-  pub invariant : InputInvariant m r.state
-  pub reads : Reads m₀ h₀ m r
+-- read after read, each of which brought bytes and whose answers were all written
+abbrev pub ReadsMore : Memory → SessionState → Point → Type 0
+ReadsMore m₀ h₀ a = Star ReadStep (record { memory = m₀; state = h₀ }) a
+
+-- Read after read, to the last one.
+pub record Reads (m₀ : Memory) (h₀ : SessionState) (m : Memory) (r : Result SessionState Stopped) : Type 0 where
+  pub before : Point
+  pub more : ReadsMore m₀ h₀ before
+  pub last : LastRead before m r
+
+-- some input was taken in; where an answer could not be written, no line after its line was run
+abbrev pub Received : Bytes → Memory → Result SessionState Stopped → Type 0
+Received text m (Ok h) = (lines : ℕ) × FeedInvariant text lines m h
+Received text m (Err (ReadFailed h)) = (lines : ℕ) × FeedInvariant text lines m h
+Received text m (Err (Unwritten w)) = AfterLinesBefore text m.store w.engine
+
+pub record ReceiveEnsures (m₀ : Memory) (h₀ : SessionState) (m : Memory) (r : Result SessionState Stopped) : Type 0
+  where
+    pub text : Bytes
+    pub received : Received text m r
+    pub reads : Reads m₀ h₀ m r
+
+-- used by the proofs alone
+
+-- between two reads
+pub record ReceiveLoop (m₀ : Memory) (h₀ : SessionState) (m : Memory) (h : SessionState) : Type 0 where
+  pub invariant : InputInvariant m h
+  pub more : ReadsMore m₀ h₀ (record { memory = m; state = h })

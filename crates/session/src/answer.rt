@@ -1,6 +1,6 @@
 // The answer to one line.
 ghost use Rattle.std.specs.Prelude.{◌≤◌, length};
-ghost use Rattle.session.specs.Answer.{memory, AnswerRequires, AnswerEnsures, ReplyEnsures};
+ghost use Rattle.session.specs.Answer.{memory, AnswerRequires, engine_of, AnswerEnsures, ReplyEnsures};
 ghost use Rattle.text.specs.Limits.{answer_room};
 
 use std::io::{Print, Stdout};
@@ -10,11 +10,10 @@ use text::progress;
 use text::progress::Progress;
 use text::squeeze::Squeeze;
 
-// The engine after a line, and whether every answer so far was written.
+// Writing an answer failed. The engine is the one after its line.
 #[derive(Clone, Copy)]
-pub struct LineResult {
+pub struct WriteFailed {
     pub engine: Engine,
-    pub written: bool,
 }
 
 // Puts the answer at the front of the output. The LF makes an empty line a line.
@@ -31,10 +30,8 @@ fn reply(
     ensures { ReplyEnsures (memory line.old cache.old store.old) squeeze engine
         (memory line.new cache.new store.new) out.new result }
 {
-    let n = squeeze.length;
-    line[n] = b'\n';
-    let e = n + 1;
-    progress::resume(&line[..e], store, cache, out, 1, engine)
+    line[squeeze.length] = b'\n';
+    progress::resume(&line[..squeeze.length + 1], store, cache, out, 1, engine)
 }
 
 // Runs the line and writes its answer.
@@ -45,16 +42,15 @@ pub fn answer(
     cache: &mut [u64],
     squeeze: Squeeze,
     engine: Engine,
-) -> LineResult
+) -> Result<Engine, WriteFailed>
     requires { AnswerRequires (memory line.old cache.old store.old) squeeze engine }
     ensures { AnswerEnsures (memory line.old cache.old store.old) squeeze engine
-        (memory line.new cache.new store.new) result.engine }
+        (memory line.new cache.new store.new) (engine_of result) }
 {
     let mut out = [0u8; ANSWER_ROOM];
-    let p = reply(line, store, cache, &mut out, squeeze, engine);
-    let a = 0;
-    let n = p.bytes;
-    let written = stdout.write_all(&out[a..n]).is_ok();
-    let engine = p.engine;
-    LineResult { engine, written }
+    let Progress { engine, bytes, .. } = reply(line, store, cache, &mut out, squeeze, engine);
+    match stdout.write_all(&out[..bytes]) {
+        Ok(()) => Ok(engine),
+        Err(_) => Err(WriteFailed { engine }),
+    }
 }

@@ -10,16 +10,16 @@ mod feed;
 mod input;
 mod outcome;
 
-ghost use Rattle.std.specs.Prelude.{◌≡◌, true, []};
+ghost use Rattle.std.specs.Prelude.{◌≡◌, []};
 ghost use Rattle.diagram.specs.Node.{capacity};
 ghost use Rattle.session.specs.Answer.{memory};
 ghost use Rattle.session.specs.Feed.{FeedInvariant};
 ghost use Rattle.session.specs.Session.{SessionEnsures};
 
 use feed::SessionState;
-use outcome::{Ending, Outcome};
-use std::io::{Print, Stderr, Stdin, Stdout};
-use text::engine;
+use outcome::Stopped;
+use std::io::{Stdin, Stdout};
+use text::engine::Engine;
 use text::limits::LINE_ROOM;
 use text::squeeze::Squeeze;
 
@@ -37,60 +37,35 @@ fn session(
     store: &mut [u8],
     cache: &mut [u64],
     start: SessionState,
-) -> Outcome
-    requires { FeedInvariant [] 0 (memory line.old cache.old store.old) start × (start.written ≡ true) }
+) -> Result<Engine, Stopped>
+    requires { FeedInvariant [] 0 (memory line.old cache.old store.old) start }
     ensures { SessionEnsures store.new result }
 {
-    let after = input::receive(input, stdout, line, store, cache, start);
-    outcome::finish(stdout, line, store, cache, after)
+    let received = input::receive(input, stdout, line, store, cache, start);
+    outcome::finish(stdout, line, store, cache, received)
 }
 
-fn run(input: Stdin, stdout: Stdout, store: &mut [u8], cache: &mut [u64]) -> Outcome
+fn run(input: Stdin, stdout: Stdout, store: &mut [u8], cache: &mut [u64]) -> Result<Engine, Stopped>
     requires { capacity store.old ≡ 2048 }
     ensures { SessionEnsures store.new result }
 {
     let mut line = [0u8; LINE_ROOM];
     let engine = engine::start(store, cache);
     let squeeze = Squeeze::none();
-    let written = true;
-    let start = SessionState {
-        squeeze,
-        engine,
-        written,
-    };
+    let start = SessionState { squeeze, engine };
     session(input, stdout, &mut line, store, cache, start)
 }
 
-// What cannot be written is left out.
-fn say(stderr: Stderr, s: &[u8]) {
-    stderr.write_all(s).unwrap_or(());
-}
-
-fn report(stderr: Stderr, o: Outcome) {
-    let ending = o.ending;
-    match ending {
-        Ending::Complete => {}
-        Ending::ReadFailed => say(stderr, b"session: reading failed\n"),
-        Ending::WriteFailed => say(stderr, b"session: writing failed\n"),
+// The arrays as slices; their lengths are known here, and nothing has to count their elements.
+fn lend(rt: HostRuntime, store: &mut [u8; STORE], cache: &mut [u64; CACHE]) {
+    if let Err(e) = run(rt.stdin(), rt.stdout(), store, cache) {
+        // What cannot be written is left out.
+        println!(rt.stderr(); "session: {e}").unwrap_or(());
     }
 }
 
-// The arrays as slices; their lengths are known here, and nothing has to count their elements.
-fn lend(
-    input: Stdin,
-    stdout: Stdout,
-    stderr: Stderr,
-    store: &mut [u8; STORE],
-    cache: &mut [u64; CACHE],
-) {
-    report(stderr, run(input, stdout, store, cache));
-}
-
 fn main(rt: HostRuntime) {
-    let input = rt.stdin();
-    let stdout = rt.stdout();
-    let stderr = rt.stderr();
     let mut store = [0u8; STORE];
     let mut cache = [0u64; CACHE];
-    lend(input, stdout, stderr, &mut store, &mut cache);
+    lend(rt, &mut store, &mut cache);
 }

@@ -1,51 +1,38 @@
 // How a session ends.
-ghost use Rattle.std.specs.Prelude.{◌≡◌, true};
+ghost use Rattle.std.specs.Prelude.{◌≡◌};
 ghost use Rattle.session.specs.Answer.{memory};
-ghost use Rattle.session.specs.Feed.{FeedRequires};
-ghost use Rattle.session.specs.Outcome.{CloseEnsures, FinishEnsures};
+ghost use Rattle.session.specs.Outcome.{FinishRequires, FinishEnsures};
+ghost use Rattle.session.specs.declared.outcome.Stopped.TheVariants.{WriteFailed as Unwritten};
 
+use crate::answer::WriteFailed;
 use crate::feed;
 use crate::feed::SessionState;
-use crate::input::AfterRead;
+use std::fmt;
 use std::io::Stdout;
-use stdin::Next;
 use text::engine::Engine;
 
-// Every line was run and its answer written; reading failed, and the line that it cut was not run; or writing failed,
-// and no line after that was run.
+// Reading failed, and the line that it cut was not run; or writing failed, and no line after that was run.
 #[derive(Clone, Copy)]
-pub enum Ending {
-    Complete,
-    ReadFailed,
-    WriteFailed,
+pub enum Stopped {
+    ReadFailed(SessionState),
+    WriteFailed(WriteFailed),
 }
 
-#[derive(Clone, Copy)]
-pub struct Outcome {
-    pub engine: Engine,
-    pub ending: Ending,
-}
+impl From<WriteFailed> for Stopped {
+    ghost from_gives = { λ e r. r ≡ Unwritten e };
 
-// The input has ended, and with it its last line.
-fn close(
-    stdout: Stdout,
-    line: &mut [u8],
-    store: &mut [u8],
-    cache: &mut [u64],
-    state: SessionState,
-) -> Outcome
-    requires { FeedRequires (memory line.old cache.old store.old) state × (state.written ≡ true) }
-    ensures { CloseEnsures (memory line.old cache.old store.old) state
-        store.new result }
-{
-    let result = feed::last(stdout, line, store, cache, state);
-    let engine = result.engine;
-    if result.written {
-        let ending = Ending::Complete;
-        return Outcome { engine, ending };
+    fn from(e: WriteFailed) -> Stopped {
+        Stopped::WriteFailed(e)
     }
-    let ending = Ending::WriteFailed;
-    Outcome { engine, ending }
+}
+
+impl fmt::Display for Stopped {
+    fn fmt<W: fmt::Write>(&self, f: &mut fmt::Formatter<W>) -> fmt::Result {
+        match self {
+            Stopped::ReadFailed(_) => write!(f, "reading failed"),
+            Stopped::WriteFailed(_) => write!(f, "writing failed"),
+        }
+    }
 }
 
 // No more is read. Where more could have come, the line that has begun is not run.
@@ -54,23 +41,12 @@ pub fn finish(
     line: &mut [u8],
     store: &mut [u8],
     cache: &mut [u64],
-    after: AfterRead,
-) -> Outcome
-    requires { FeedRequires (memory line.old cache.old store.old) after.state }
-    ensures { FinishEnsures (memory line.old cache.old store.old) after
+    received: Result<SessionState, Stopped>,
+) -> Result<Engine, Stopped>
+    requires { FinishRequires (memory line.old cache.old store.old) received }
+    ensures { FinishEnsures (memory line.old cache.old store.old) received
         store.new result }
 {
-    let state = after.state;
-    let next = after.next;
-    let engine = state.engine;
-    let ending = Ending::ReadFailed;
-    if state.written {
-        match next {
-            Next::End => return close(stdout, line, store, cache, state),
-            Next::More => return Outcome { engine, ending },
-            Next::Failed => return Outcome { engine, ending },
-        }
-    }
-    let ending = Ending::WriteFailed;
-    Outcome { engine, ending }
+    let state = received?;
+    Ok(feed::last(stdout, line, store, cache, state)?)
 }

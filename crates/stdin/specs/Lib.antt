@@ -1,5 +1,3 @@
 -- What a reader must believe: what a read promises, and what steps one after the other are
 pub mod Stdin
 pub mod Star
--- laws of reads
-pub mod StdinLaws

@@ -1,64 +1,78 @@
-// Standard input, one read at a time, for the programs.
+// Standard input, for the programs: one read at a time into a lent buffer, or text after text into a Vec.
 #![tactic(auto)]
 
-ghost use Rattle.std.specs.Prelude.{◌≡◌, length};
-ghost use Rattle.stdin.specs.Stdin.{IsPrefixLen, answered, next_of, is_more, result_of, PossibleRead};
+ghost use Rattle.std.specs.Prelude.{◌≡◌, IfSome, IfOk, OnOk, length};
+ghost use Rattle.std.specs.Io.BufRead.{take_through, ends_with_byte, strip_last, first_piece, DropsThrough};
+ghost use Rattle.stdin.specs.Stdin.{IsPrefixLen, outcome_of, PossibleRead};
 
 use std::io;
-use std::io::{Read, Stdin};
+use std::io::{BufRead, Read, Stdin};
 
-// Bytes came, and more may; the input has ended; or reading failed, and nobody knows what is missing.
-#[derive(Clone, Copy)]
-pub enum Next {
-    More,
-    End,
-    Failed,
-}
+// Reading failed, and nobody knows what is missing.
+#[derive(Clone, Copy, Debug, PartialEq, Eq)]
+pub struct ReadFailed;
 
-// How many bytes came, which stand at the front of the buffer, and what comes next.
-#[derive(Clone, Copy)]
-pub struct ReadResult {
-    pub count: usize,
-    pub next: Next,
-}
-
-// What comes next, by what a read answered.
-fn next_of(got: &io::Result<usize>) -> Next
-    ensures { result ≡ next_of (answered got.now) }
+// What a read answered, without the reason of a failure.
+fn outcome_of(got: io::Result<usize>) -> Result<usize, ReadFailed>
+    ensures { result ≡ outcome_of got }
 {
-    match got {
-        Ok(0) => Next::End,
-        Ok(_) => Next::More,
-        Err(_) => Next::Failed,
-    }
+    got.map_err(|_| ReadFailed)
 }
 
-// Whether to read again.
-pub fn is_more(next: Next) -> bool
-    ensures { result ≡ is_more next }
-{
-    match next {
-        Next::More => true,
-        Next::End => false,
-        Next::Failed => false,
-    }
-}
-
-// What a read answered for this buffer.
-fn result_of(got: io::Result<usize>, buffer: &[u8]) -> ReadResult
-    ensures prefix_len { IsPrefixLen result.count buffer.now }
-    ensures value { result ≡ result_of (answered got) (length buffer.now) }
-{
-    let next = next_of(&got);
-    let count = got.unwrap_or(0).min(buffer.len());
-    ReadResult { count, next }
-}
-
-pub fn read(input: Stdin, buffer: &mut [u8]) -> ReadResult
-    ensures prefix_len { IsPrefixLen result.count buffer.new }
+// Reads once. So many bytes came, which stand at the front of the buffer; none where the input has ended.
+pub fn read(mut input: Stdin, buffer: &mut [u8]) -> Result<usize, ReadFailed>
+    ensures prefix_len { IfOk result (λ n. IsPrefixLen n buffer.new) }
     ensures possible_read { PossibleRead (length buffer.new) result }
 {
-    let mut input = input;
-    let got = input.read(buffer);
-    result_of(got, buffer)
+    outcome_of(input.read(buffer))
+}
+
+// Takes the last byte off if it is `end`, and answers whether it was.
+fn take_off(text: &mut Vec<u8>, end: u8) -> bool
+    ensures ended { result ≡ ends_with_byte end text.old.items }
+    ensures items { text.new.items ≡ strip_last end text.old.items }
+{
+    let n = text.len();
+    if n == 0 {
+        return false;
+    }
+    if text[n - 1] != end {
+        return false;
+    }
+    text.truncate(n - 1);
+    true
+}
+
+// Reads the bytes up to the next `end` into `text`, without it, and answers whether it came.
+pub fn read_text<R: BufRead>(input: &mut R, end: u8, text: &mut Vec<u8>) -> io::Result<bool>
+    ensures text { OnOk result (IfSome (R.remaining input.old)
+        (λ xs. text.new.items ≡ first_piece end xs)) }
+    ensures ended { IfOk result (λ ended. IfSome (R.remaining input.old)
+        (λ xs. ended ≡ ends_with_byte end (take_through end xs))) }
+    ensures rest { OnOk result (DropsThrough (R.remaining input.old) (R.remaining input.new) end) }
+{
+    text.clear();
+    input.read_until(end, text)?;
+    Ok(take_off(text, end))
+}
+
+#[cfg(test)]
+mod tests {
+    use super::*;
+    use std::test::Fail;
+
+    #[test]
+    fn texts_and_a_last_part(rt: HostRuntime) -> Result<(), Fail> {
+        let mut input = b"ab\0\0c".as_slice();
+        let mut text = Vec::new(rt.alloc());
+        assert!(rt; read_text(&mut input, 0, &mut text)?);
+        assert_eq!(rt; text.as_slice(), b"ab".as_slice());
+        assert!(rt; read_text(&mut input, 0, &mut text)?);
+        assert!(rt; text.is_empty());
+        assert!(rt; !read_text(&mut input, 0, &mut text)?);
+        assert_eq!(rt; text.as_slice(), b"c".as_slice());
+        assert!(rt; !read_text(&mut input, 0, &mut text)?);
+        assert!(rt; text.is_empty());
+        Ok(())
+    }
 }

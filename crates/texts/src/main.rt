@@ -2,109 +2,35 @@
 // `no`, a fault's number and its line. A byte 0 ends a text.
 #![tactic(auto)]
 
-use std::io::{Print, Read, Stdin, Stdout};
-use text::check::{Checked, FaultAt};
+use std::io;
+use std::io::{BufReader, Stdout};
+use text::check;
 
-// The longest text, and how many bytes are read at once.
+// The longest text.
 const TEXT: usize = 65536;
 
-const PART: usize = 4096;
-
-// What cannot be written is left out.
-fn word(stdout: Stdout, s: &[u8]) {
-    stdout.write_all(s).unwrap_or(());
-}
-
-fn number(stdout: Stdout, n: usize) {
-    word(stdout, b" ");
-    print!(stdout; "{n}").unwrap_or(());
-}
-
-fn show(stdout: Stdout, checked: Result<Checked, FaultAt>) {
-    match checked {
-        Ok(good) => {
-            word(stdout, b"good");
-            number(stdout, good.n);
-            number(stdout, good.parting);
-            number(stdout, good.count);
-        }
-        Err(f) => {
-            word(stdout, b"no");
-            number(stdout, f.fault.number());
-            number(stdout, f.line);
-        }
+fn show(stdout: Stdout, text: &[u8]) -> io::Result<()> {
+    if TEXT < text.len() {
+        return println!(stdout; "too long");
     }
-    word(stdout, b"\n");
-}
-
-// A text of `len` bytes has come. One that is longer than the buffer is not checked.
-fn end(stdout: Stdout, text: &[u8], len: usize) {
-    let a = 0;
-    if len <= text.len() {
-        show(stdout, text::check::check(&text[a..len]));
-    } else {
-        word(stdout, b"too long\n");
+    match check::check(text) {
+        Ok(good) => println!(stdout; "good {} {} {}", good.n, good.parting, good.count),
+        Err(f) => println!(stdout; "no {} {}", f.fault.number(), f.line),
     }
 }
 
-// One byte more, and how many the text has now.
-fn step(stdout: Stdout, text: &mut [u8], len: usize, b: u8) -> usize {
-    if b == 0 {
-        end(stdout, text, len);
-        return 0;
-    }
-    if len < text.len() {
-        text[len] = b;
-        return len + 1;
-    }
-    text.len() + 1
-}
-
-fn feed(stdout: Stdout, text: &mut [u8], len: usize, part: &[u8]) -> usize {
-    let mut n = len;
-    let mut i = 0;
-    while i < part.len() {
-        n = step(stdout, text, n, part[i]);
-        i += 1;
-    }
-    n
-}
-
-// Bytes came, or the input has ended.
-#[derive(Clone, Copy)]
-enum AfterRead {
-    More(usize),
-    End,
-}
-
-fn read(
-    mut input: Stdin,
-    stdout: Stdout,
-    text: &mut [u8],
-    part: &mut [u8],
-    len: usize,
-) -> AfterRead {
-    // A read that fails counts as the input's end.
-    let n = input.read(part).unwrap_or(0);
-    if n == 0 {
-        return AfterRead::End;
-    }
-    AfterRead::More(feed(stdout, text, len, &part[..n]))
-}
-
-// A proved loop has to end, and nothing says that an input does. So it counts down from a number that no run uses up.
-fn main(rt: HostRuntime) {
-    let input = rt.stdin();
+fn main(rt: HostRuntime) -> io::Result<()> {
     let stdout = rt.stdout();
-    let mut text = [0u8; TEXT];
-    let mut part = [0u8; PART];
-    let mut len: usize = 0;
-    let mut turns = u64::MAX;
-    while 0 < turns {
-        match read(input, stdout, &mut text, &mut part, len) {
-            AfterRead::More(n) => len = n,
-            AfterRead::End => return,
+    let mut input = BufReader::new(rt.alloc(), rt.stdin())?;
+    let mut text = Vec::new(rt.alloc());
+    // A proved loop has to end, and nothing says that an input does: no run uses this count up.
+    for _ in 0..u64::MAX {
+        // A read that fails counts as the input's end, and a last part without its byte 0 is no text.
+        if !stdin::read_text(&mut input, 0, &mut text).unwrap_or(false) {
+            break;
         }
-        turns -= 1;
+        // What cannot be written is left out.
+        show(stdout, &text).unwrap_or(());
     }
+    Ok(())
 }

@@ -1,62 +1,46 @@
 -- What reading standard input into one buffer promises. Which bytes a read puts into its own buffer no contract can
 -- say; that these are kept, all and in order, is said.
-use Rattle.std.specs.Prelude.{◌≡◌, ◌++◌, ℕ, ◌+◌, ◌≤◌, min, length, take}
-use Rattle.stdin.specs.Stdin.{PossibleRead}
+use Rattle.std.specs.Prelude.{◌≡◌, ◌++◌, ℕ, suc, ◌+◌, min, length, take, ⊤, Result, Ok, Err}
+use Rattle.stdin.specs.Stdin.{count_of, PossibleRead}
 use Rattle.stdin.specs.Star.{Star}
-use Rattle.stdin.specs.declared.Next.TheVariants.{More}
-use Rattle.stdin.specs.declared.ReadResult.{ReadResult}
+use Rattle.stdin.specs.declared.ReadFailed.{ReadFailed}
 use Rattle.text.specs.Text.{Bytes}
-use Rattle.verdict.specs.declared.input.AfterRead.{AfterRead}
+use Rattle.verdict.specs.declared.buffer.Buffer.{Buffer}
 
 -- The bytes that came stand at the buffer's front, in order, as many as fit; `len` is how many came, or one more than
 -- fit where more came.
-pub record BufferHolds (came text : Bytes) (len : ℕ) : Type 0 where
-  pub kept : take len text ≡ take (length text) came
-  pub count : len ≡ min (length came) (length text + 1)
+pub record BufferHolds (came : Bytes) (a : Buffer) : Type 0 where
+  pub kept : take a.len a.text ≡ take (length a.text) came
+  pub count : a.len ≡ min (length came) (length a.text + 1)
 
 -- `part` came after what there was
-pub record FeedEnsures (part text : Bytes) (len : ℕ) (text' : Bytes) (n : ℕ) : Type 0 where
-  pub on : (came : Bytes) → BufferHolds came text len → BufferHolds (came ++ part) text' n
+pub record FeedEnsures (part : Bytes) (a b : Buffer) : Type 0 where
+  pub on : (came : Bytes) → BufferHolds came a → BufferHolds (came ++ part) b
 
--- what a read says came was taken in
-pub record TakeEnsures (result : ReadResult) (part text : Bytes) (len : ℕ) (text' : Bytes) (r : AfterRead) : Type 0
-  where
-    pub next : r.next ≡ result.next
-    pub feeds : FeedEnsures (take result.count part) text len text' r.len
-
--- a read, whatever it answered and put into its buffer
-pub record ReadEnsures (text : Bytes) (len : ℕ) (text' : Bytes) (r : AfterRead) : Type 0 where
-  pub result : ReadResult
+-- a read, whatever it answered and put into its buffer: what it says came was taken in
+pub record ReadEnsures (a b : Buffer) (r : Result ℕ ReadFailed) : Type 0 where
   pub part : Bytes
-  pub possible : PossibleRead (length part) result
-  pub takes : TakeEnsures result part text len text' r
+  pub possible : PossibleRead (length part) r
+  pub feeds : FeedEnsures (take (count_of r) part) a b
 
--- the buffer after a read, how many bytes have come, and what the read said of what comes next
-pub record Point : Type 0 where
-  pub text : Bytes
-  pub after : AfterRead
+-- one read more: it brought bytes
+pub record ReadStep (a b : Buffer) : Type 0 where
+  pub more : ℕ
+  pub read : ReadEnsures a b (Ok (suc more))
 
--- before any read
-abbrev pub starting_point : Bytes → Point
-starting_point text = record { text = text; after = record { len = 0; next = More } }
+-- read after read into an empty buffer, each of which brought bytes
+pub record ReadsMore (b : Buffer) : Type 0 where
+  pub start : Buffer
+  pub empty : start.len ≡ 0
+  pub steps : Star ReadStep start b
 
--- one read more: only after one that brought bytes
-pub record ReadStep (a b : Point) : Type 0 where
-  pub reads_more : a.after.next ≡ More
-  pub read : ReadEnsures a.text a.after.len b.text b.after
+-- After them came the read that said that the input has ended; or one that failed, or none.
+abbrev pub LastRead : Buffer → Buffer → Result ⊤ ReadFailed → Type 0
+LastRead a b (Ok _) = ReadEnsures a b (Ok 0)
+LastRead a b (Err e) = ReadEnsures a b (Err e)
 
--- Read after read.
-abbrev pub Reads : Bytes → Bytes → AfterRead → Type 0
-Reads text₀ text r = Star ReadStep (starting_point text₀) (record { text = text; after = r })
-
--- used by the proofs alone
-
--- what holds between two reads: some bytes came, and are held
-pub record InputInvariant (text : Bytes) (len : ℕ) : Type 0 where
-  pub came : Bytes
-  pub holds : BufferHolds came text len
-
--- the loop over a part: i of its bytes are taken in
-pub record FeedLoop (part text₀ : Bytes) (len : ℕ) (i : ℕ) (text : Bytes) (n : ℕ) : Type 0 where
-  pub within : i ≤ length part
-  pub feeds : FeedEnsures (take i part) text₀ len text n
+-- Read after read, to the last one.
+pub record Reads (b : Buffer) (r : Result ⊤ ReadFailed) : Type 0 where
+  pub before : Buffer
+  pub more : ReadsMore before
+  pub last : LastRead before b r

@@ -1,89 +1,91 @@
 -- Bytes taken in one after the other, and read after read.
-use Rattle.std.specs.Prelude.{◌≡◌, [], ◌∷◌, ◌++◌, ℕ, ◌+◌, ◌≤◌, ◌<◌, length, take, set, get_or}
-use Rattle.std.proofs.Common.{sym, ◌∙◌, append-nil, append_assoc, add-one, arith, length-append, length-set, take-suc}
-use Rattle.std.proofs.Common.{take_all, take-suc-set}
+use Rattle.std.specs.Prelude.{◌≡◌, refl, [], ◌∷◌, ◌++◌, ℕ, zero, suc, ◌+◌, ◌≢◌, ◌≤◌, ◌<◌, length, take, get_or, ⊤, Result, Ok, Err, IsErr}
+use Rattle.std.proofs.Common.{sym, subst, append-nil, append_assoc, add-one, arith, length-append, take-suc, take_all}
+use Rattle.std.proofs.lemmas.Bool.{false≢true}
 use Rattle.std.proofs.Math.Seq.{take-nil}
 use Rattle.std.proofs.lemmas.List.{take-append-le}
+use Rattle.stdin.specs.Stdin.{count_of}
 use Rattle.stdin.specs.Star.{Star, none, more}
-use Rattle.stdin.specs.declared.Next.TheVariants.{More}
+use Rattle.stdin.specs.declared.ReadFailed.{ReadFailed}
 use Rattle.text.specs.Text.{Bytes}
-use Rattle.verdict.specs.Input.{FeedEnsures, ReadEnsures, Point, starting_point, ReadStep, Reads}
-use Rattle.verdict.specs.Input.{InputInvariant, FeedLoop}
-use Rattle.verdict.specs.declared.input.AfterRead.{AfterRead}
+use Rattle.verdict.specs.Input.{BufferHolds, FeedEnsures, ReadEnsures, ReadStep, ReadsMore, LastRead, Reads}
+use Rattle.verdict.specs.declared.buffer.Buffer.{Buffer}
 
--- one byte
-
-module _ {text : Bytes} {len b : ℕ} where
-  pub feeds_byte : len < length text → FeedEnsures (b ∷ []) text len (set text len b) (len + 1)
-  feeds_byte h = record {
-    on = λ came w.
-        let few : length came ≡ len = omega (arith, w.count) in
-        let all : take len text ≡ came = w.kept ∙ take_all (length text) came (omega arith) in
-        let more : length (came ++ (b ∷ [])) ≡ len + 1 = length-append came (b ∷ []) ∙ (rw few) in
-        record {
-          kept = rw (add-one len, take-suc-set text len b h, all, length-set text len b)
-              (sym (take_all (length text) (came ++ (b ∷ [])) (omega arith)));
-          count = omega (arith, length-set text len b);
-        };
-  }
-
-  pub feeds_over : length text ≤ len → FeedEnsures (b ∷ []) text len text (length text + 1)
-  feeds_over h = record {
-    on = λ came w.
-        let many : length text ≤ length came = omega (arith, w.count) in
-        record {
-          kept = rw (
-            take_all (length text + 1) text (omega arith),
-            take-append-le (length text) came (b ∷ []) many,
-            ← w.kept,
-          ) (sym (take_all len text h));
-          count = omega (arith, length-append came (b ∷ []));
-        };
-  }
+-- one byte that does not fit
+pub feeds_over : {a b : Buffer} {x : ℕ} → length a.text ≤ a.len → b.text ≡ a.text → b.len ≡ length a.text + 1
+    → FeedEnsures (x ∷ []) a b
+feeds_over {a} {b} {x} h p q = record {
+  on = λ came w.
+      let many : length a.text ≤ length came = omega (arith, w.count) in
+      record {
+        kept = rw (
+          p,
+          q,
+          take_all (length a.text + 1) a.text (omega arith),
+          take-append-le (length a.text) came (x ∷ []) many,
+          ← w.kept,
+        ) (sym (take_all a.len a.text h));
+        count = rw (p, q) (omega (arith, length-append came (x ∷ [])));
+      };
+}
 
 -- the loop over a part
 
-pub feed_start : {part text : Bytes} {len : ℕ} → FeedLoop part text len 0 text len
-feed_start = record { within = omega arith; feeds = record { on = λ came w. rw (append-nil came) w } }
+pub feed_none : {a : Buffer} → FeedEnsures [] a a
+feed_none = record { on = λ came w. rw (append-nil came) w }
 
-module _ {part text₀ : Bytes} {len i : ℕ} {text : Bytes} {n : ℕ} (g : FeedLoop part text₀ len i text n) where
-  pub feed_step : {text' : Bytes} {m : ℕ} → i < length part → FeedEnsures (get_or part i 0 ∷ []) text n text' m
-      → FeedLoop part text₀ len (i + 1) text' m
-  feed_step l b = record {
-    within = omega arith;
-    feeds = record {
-      on = λ came w.
-          rw (add-one i, take-suc part i 0 l, ← append_assoc came (take i part) (get_or part i 0 ∷ []))
-          (b.on (came ++ take i part) (g.feeds.on came w));
-    };
-  }
-
-  pub feed_end : length part ≤ i → FeedEnsures part text₀ len text n
-  feed_end l = rw (take_all i part l) at g.feeds
+pub feed_step : (part : Bytes) {a b c : Buffer} {i : ℕ} → i < length part → FeedEnsures (take i part) a b
+    → FeedEnsures (get_or part i 0 ∷ []) b c
+    → FeedEnsures (take (i + 1) part) a c
+feed_step part {i = i} l f g = record {
+  on = λ came w.
+      rw (add-one i, take-suc part i 0 l, ← append_assoc came (take i part) (get_or part i 0 ∷ []))
+      (g.on (came ++ take i part) (f.on came w));
+}
 
 -- the loop over the input
 
-pub reads_start : {text : Bytes} → Reads text text (record { len = 0; next = More })
-reads_start = none
+pub reads_start : {a : Buffer} → a.len ≡ 0 → ReadsMore a
+reads_start {a} e = record { start = a; empty = e; steps = none }
 
-pub reads_step : {text₀ text text' : Bytes} {r r' : AfterRead} → Reads text₀ text r → r.next ≡ More
-    → ReadEnsures text r.len text' r' → Reads text₀ text' r'
-reads_step p g w = more p (record { reads_more = g; read = w })
+pub reads_more : {a b : Buffer} (n : ℕ) → n ≢ 0 → ReadsMore a → ReadEnsures a b (Ok n) → ReadsMore b
+reads_more zero h v w = absurd (h refl)
+reads_more (suc n) h v w = record {
+  start = v.start;
+  empty = v.empty;
+  steps = more v.steps (record { more = n; read = w });
+}
+
+pub reads_end : {a b : Buffer} {n : ℕ} → n ≡ 0 → ReadsMore a → ReadEnsures a b (Ok n) → Reads b (Ok tt)
+reads_end {a} {b} e v w = record { before = a; more = v; last = subst (λ k. ReadEnsures a b (Ok k)) e w }
+
+pub reads_failed : {a b : Buffer} {e : ReadFailed} (r : Result ⊤ ReadFailed) → IsErr r → ReadsMore a
+    → ReadEnsures a b (Err e) → Reads b r
+reads_failed (Ok u) i v w = absurd (false≢true i)
+reads_failed {a} (Err e) i v w = record { before = a; more = v; last = w }
+
+pub reads_none : {a : Buffer} {e : ReadFailed} → ReadsMore a → Reads a (Err e)
+reads_none {a} v =
+    record { before = a; more = v; last = record { part = []; possible = omega arith; feeds = feed_none } }
 
 -- what the buffer holds after any number of reads
 
-input_start : (text : Bytes) → InputInvariant text 0
-input_start text =
-    record { came = []; holds = record { kept = sym (take-nil (length text)); count = omega arith } }
+pub record Held (a : Buffer) : Type 0 where
+  pub came : Bytes
+  pub holds : BufferHolds came a
 
-input_step : {text text' : Bytes} {len : ℕ} {r : AfterRead} → InputInvariant text len → ReadEnsures text len text' r
-    → InputInvariant text' r.len
-input_step v w = record {
-  came = v.came ++ take w.result.count w.part;
-  holds = w.takes.feeds.on v.came v.holds;
-}
+held_read : {a b : Buffer} {r : Result ℕ ReadFailed} → Held a → ReadEnsures a b r → Held b
+held_read {r = r} v w =
+    record { came = v.came ++ take (count_of r) w.part; holds = w.feeds.on v.came v.holds }
 
-pub reads_held : {text₀ : Bytes} {p : Point} → Star ReadStep (starting_point text₀) p
-    → InputInvariant p.text p.after.len
-reads_held {text₀} none = input_start text₀
-reads_held (more r s) = input_step (reads_held r) s.read
+held_steps : {a b : Buffer} → a.len ≡ 0 → Star ReadStep a b → Held b
+held_steps {a} e none =
+    record { came = []; holds = record { kept = rw e (sym (take-nil (length a.text))); count = omega (arith, e) } }
+held_steps e (more r s) = held_read (held_steps e r) s.read
+
+held_last : {a b : Buffer} (r : Result ⊤ ReadFailed) → Held a → LastRead a b r → Held b
+held_last (Ok u) v w = held_read v w
+held_last (Err e) v w = held_read v w
+
+pub reads_held : {a : Buffer} {r : Result ⊤ ReadFailed} → Reads a r → Held a
+reads_held {r = r} w = held_last r (held_steps w.more.empty w.more.steps) w.last

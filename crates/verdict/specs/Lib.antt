@@ -4,5 +4,4 @@ pub mod Outcome
 pub mod Verdict
 -- laws of them
 pub mod InputLaws
-pub mod OutcomeLaws
 pub mod VerdictLaws

@@ -1,29 +1,49 @@
 -- The whole input, from its reads and its end; the answer inside the output.
-use Rattle.std.specs.Prelude.{◌≡◌, List, ℕ, ◌≤◌, length}
-use Rattle.std.proofs.Common.{subst}
+use Rattle.std.specs.Prelude.{◌≡◌, refl, List, ℕ, ◌≤◌, length, ⊤, Result, Ok, Err, IfOk}
+use Rattle.stdin.specs.declared.ReadFailed.{ReadFailed}
+use Rattle.std.proofs.Common.{arith}
 use Rattle.text.specs.Text.{Bytes}
 use Rattle.text.specs.JudgeLaws.{verdict_within}
 use Rattle.text.specs.declared.ruling.VerdictResult.{VerdictResult}
 use Rattle.verdict.specs.Input.{Reads}
 use Rattle.verdict.specs.InputLaws.{reads_held}
-use Rattle.verdict.specs.Outcome.{AnswerTo, FinishEnsures}
-use Rattle.verdict.specs.Verdict.{RunEnsures, ShowRequires}
-use Rattle.verdict.specs.declared.input.AfterRead.{AfterRead}
-use Rattle.verdict.specs.declared.outcome.Outcome.{Outcome}
-use Rattle.verdict.specs.declared.outcome.Outcome.TheVariants.{Judged}
+use Rattle.verdict.specs.Outcome.{JudgeEnsures}
+use Rattle.verdict.specs.Verdict.{RunEnsures}
+use Rattle.verdict.specs.declared.buffer.Buffer.{Buffer}
+use Rattle.verdict.specs.declared.outcome.Unjudged.{Unjudged}
+use Rattle.verdict.specs.declared.outcome.Unjudged.TheVariants.{ReadFailed as Unread}
 
-pub run_ensures : {text₀ text : Bytes} {s : List ℕ} {o o' : Bytes} {t : AfterRead} {r : Outcome} → Reads text₀ text t
-    → FinishEnsures text s o o' t r → RunEnsures text₀ text s o o' r
-run_ensures {t = t} u f =
-    let v = reads_held u in
-    record { last = t; reads = u; cut = f.cut; came = v.came; holds = v.holds; answer = f.on v.came v.holds }
+pub run_judged : {a : Buffer} {s : List ℕ} {o o' : Bytes} {u : ⊤} {r : Result VerdictResult Unjudged}
+    → Reads a (Ok u) → JudgeEnsures a s o o' r
+    → RunEnsures a s o o' r
+run_judged {u = u} w j =
+    let v = reads_held w in
+    record {
+      received = Ok u;
+      reads = w;
+      cut = λ e q. absurd (let i : ◌≡◌ {A = ℕ} 0 1 = cc in omega arith);
+      whole = λ x q. j.read;
+      came = v.came;
+      holds = v.holds;
+      answer = j.on v.came v.holds;
+    }
 
-pub run_shows : {text text' : Bytes} {s : List ℕ} {o o' : Bytes} {r : Outcome} → RunEnsures text text' s o o' r
-    → ShowRequires r o'
-run_shows {text} {text'} {s} {o} {o'} {r} v = record {
-  within = λ w e.
-      verdict_within (subst (λ (x : Outcome). AnswerTo x v.came (length text') s o o') e v.answer).1;
-}
+pub run_cut : {a : Buffer} {s : List ℕ} {o : Bytes} {e : ReadFailed} {r : Result VerdictResult Unjudged}
+    → r ≡ Err Unread → Reads a (Err e)
+    → RunEnsures a s o o r
+run_cut {e = e} p w =
+    let v = reads_held w in
+    rw p (record {
+      received = Err e;
+      reads = w;
+      cut = λ x q. refl;
+      whole = λ u q. absurd (let i : ◌≡◌ {A = ℕ} 0 1 = cc in omega arith);
+      came = v.came;
+      holds = v.holds;
+      answer = refl;
+    })
 
-pub shows_within : {r : Outcome} {o : Bytes} {v : VerdictResult} → ShowRequires r o → r ≡ Judged v → v.bytes ≤ length o
-shows_within {v = v} w e = w.within v e
+pub run_within : {a : Buffer} {s : List ℕ} {o o' : Bytes} (r : Result VerdictResult Unjudged) → RunEnsures a s o o' r
+    → IfOk r (λ v. v.bytes ≤ length o')
+run_within (Ok v) w = verdict_within w.answer.1
+run_within (Err e) w = tt

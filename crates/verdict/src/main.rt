@@ -4,16 +4,19 @@
 // so, as it does of an answer that could not be written. (The exit status is 0 all the same.)
 #![tactic(auto)]
 
+mod buffer;
 mod input;
 mod outcome;
 
-ghost use Rattle.std.specs.Prelude.{◌≡◌, ◌≤◌, length};
+ghost use Rattle.std.specs.Prelude.{◌≡◌, ◌≤◌, IfOk, length};
 ghost use Rattle.diagram.specs.Node.{capacity};
-ghost use Rattle.verdict.specs.Verdict.{RunEnsures, ShowRequires};
+ghost use Rattle.verdict.specs.Verdict.{RunEnsures};
 
-use outcome::Outcome;
+use buffer::{Buffer, TEXT};
+use outcome::Unjudged;
 use std::io::{Print, Stderr, Stdin, Stdout};
 use text::limits::VERDICT_ROOM;
+use text::ruling::VerdictResult;
 
 // 2048 nodes of 16 bytes.
 const STORE: usize = 32768;
@@ -21,67 +24,48 @@ const STORE: usize = 32768;
 // 4096 remembered results of four words.
 const CACHE: usize = 16384;
 
-// The longest text: 1 MiB.
-const TEXT: usize = 1048576;
-
 fn run(
-    input: Stdin,
-    text: &mut [u8],
+    stdin: Stdin,
+    buffer: &mut Buffer,
     store: &mut [u8],
     cache: &mut [u64],
     out: &mut [u8],
-) -> Outcome
+) -> Result<VerdictResult, Unjudged>
     requires { capacity store.old ≡ 2048 }
-    ensures { RunEnsures text.old text.new store.old
+    ensures { RunEnsures buffer.new store.old
         out.old out.new result }
 {
-    let after = input::receive(input, text);
-    outcome::finish(text, store, cache, out, after)
+    buffer.receive(stdin)?;
+    outcome::judge(buffer, store, cache, out)
 }
 
-// What cannot be written is left out.
-fn say(stderr: Stderr, s: &[u8]) {
-    stderr.write_all(s).unwrap_or(());
-}
-
-fn answer(stdout: Stdout, stderr: Stderr, out: &[u8], n: usize)
-    requires { n ≤ length out.now }
-{
-    if stdout.write_all(&out[..n]).is_err() {
-        say(stderr, b"verdict: writing failed\n");
-    }
-}
-
-fn show(stdout: Stdout, stderr: Stderr, out: &[u8], outcome: Outcome)
-    requires { ShowRequires outcome out.now }
+// What cannot be written to standard error is left out.
+fn show(stdout: Stdout, stderr: Stderr, out: &[u8], outcome: Result<VerdictResult, Unjudged>)
+    requires { IfOk outcome (λ v. v.bytes ≤ length out.now) }
 {
     match outcome {
-        Outcome::Judged(v) => answer(stdout, stderr, out, v.bytes),
-        Outcome::TooLong => say(stderr, b"verdict: the text is longer than 1048576 bytes\n"),
-        Outcome::ReadFailed => say(stderr, b"verdict: reading failed\n"),
+        Ok(v) => {
+            if stdout.write_all(&out[..v.bytes]).is_err() {
+                println!(stderr; "verdict: writing failed").unwrap_or(());
+            }
+        }
+        Err(e) => println!(stderr; "verdict: {e}").unwrap_or(()),
     }
 }
 
 // The arrays as slices; their lengths are known here, and nothing has to count their elements.
-fn lend(
-    input: Stdin,
-    stdout: Stdout,
-    stderr: Stderr,
-    text: &mut [u8; TEXT],
-    store: &mut [u8; STORE],
-    cache: &mut [u64; CACHE],
-) {
+fn lend(rt: HostRuntime, buffer: &mut Buffer, store: &mut [u8; STORE], cache: &mut [u64; CACHE]) {
     let mut out = [0u8; VERDICT_ROOM];
-    let outcome = run(input, text, store, cache, &mut out);
-    show(stdout, stderr, &out, outcome);
+    let outcome = run(rt.stdin(), buffer, store, cache, &mut out);
+    show(rt.stdout(), rt.stderr(), &out, outcome);
 }
 
 fn main(rt: HostRuntime) {
-    let input = rt.stdin();
-    let stdout = rt.stdout();
-    let stderr = rt.stderr();
-    let mut text = [0u8; TEXT];
+    let mut buffer = Buffer {
+        text: [0u8; TEXT],
+        len: 0,
+    };
     let mut store = [0u8; STORE];
     let mut cache = [0u64; CACHE];
-    lend(input, stdout, stderr, &mut text, &mut store, &mut cache);
+    lend(rt, &mut buffer, &mut store, &mut cache);
 }

@@ -1,47 +1,50 @@
 // The answer is about a whole text, or there is none.
-ghost use Rattle.verdict.specs.Outcome.{JudgeEnsures, FinishEnsures};
+ghost use Rattle.verdict.specs.Outcome.{JudgeEnsures};
+ghost use Rattle.std.specs.Prelude.{◌≡◌};
+ghost use Rattle.verdict.specs.declared.outcome.Unjudged.TheVariants.{ReadFailed as Unread};
 
-use crate::input::AfterRead;
-use stdin::Next;
+use crate::buffer::{Buffer, TEXT};
+use std::fmt;
+use stdin::ReadFailed;
 use text::judge;
 use text::ruling::VerdictResult;
 
-// The text was judged; it is longer than the buffer; or reading failed, and nobody knows what is missing.
+// The text is longer than the buffer; or reading failed, and nobody knows what is missing.
 #[derive(Clone, Copy)]
-pub enum Outcome {
-    Judged(VerdictResult),
+pub enum Unjudged {
     TooLong,
     ReadFailed,
 }
 
-// The input has ended; `len` bytes came.
-fn judge(text: &[u8], store: &mut [u8], cache: &mut [u64], out: &mut [u8], len: usize) -> Outcome
-    ensures { JudgeEnsures text.now len store.old
-        out.old out.new result }
-{
-    if text.len() < len {
-        return Outcome::TooLong;
+impl From<ReadFailed> for Unjudged {
+    ghost from_gives = { λ _ e. e ≡ Unread };
+
+    fn from(_e: ReadFailed) -> Unjudged {
+        Unjudged::ReadFailed
     }
-    let v = judge::verdict(&text[..len], store, cache, out);
-    Outcome::Judged(v)
 }
 
-// No more is read: only an input that has ended is judged.
-pub fn finish(
-    text: &[u8],
+impl fmt::Display for Unjudged {
+    fn fmt<W: fmt::Write>(&self, f: &mut fmt::Formatter<W>) -> fmt::Result {
+        match self {
+            Unjudged::TooLong => write!(f, "the text is longer than {TEXT} bytes"),
+            Unjudged::ReadFailed => write!(f, "reading failed"),
+        }
+    }
+}
+
+// The input has ended.
+pub fn judge(
+    buffer: &Buffer,
     store: &mut [u8],
     cache: &mut [u64],
     out: &mut [u8],
-    after: AfterRead,
-) -> Outcome
-    ensures { FinishEnsures text.now store.old
-        out.old out.new after result }
+) -> Result<VerdictResult, Unjudged>
+    ensures { JudgeEnsures buffer.now store.old
+        out.old out.new result }
 {
-    let next = after.next;
-    let len = after.len;
-    match next {
-        Next::End => judge(text, store, cache, out, len),
-        Next::More => Outcome::ReadFailed,
-        Next::Failed => Outcome::ReadFailed,
+    if TEXT < buffer.len {
+        return Err(Unjudged::TooLong);
     }
+    Ok(judge::verdict(&buffer.text[..buffer.len], store, cache, out))
 }

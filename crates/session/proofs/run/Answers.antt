@@ -1,4 +1,4 @@
-use borrow.Author.Rules.{rules}
+use Rattle.std.proofs.Common.{rules}
 use Rattle.session.specs.InputLaws.{input_start}
 use Rattle.session.proofs.run.Goals as goal
 

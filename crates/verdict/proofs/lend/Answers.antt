@@ -1,6 +1,5 @@
-use borrow.Author.Rules.{rules}
-use Rattle.verdict.specs.VerdictLaws.{run_shows}
+use Rattle.verdict.specs.VerdictLaws.{run_within}
 use Rattle.verdict.proofs.lend.Goals as goal
 
 pub show-requires : goal.show-requires
-show-requires c = search (rules, run_shows)
+show-requires c = run_within _ c.run-outcome.ensures

@@ -1,12 +1,9 @@
-use borrow.Author.Rules.{rules}
-use Rattle.session.specs.FeedLaws.{feed_start, feed_step, feed_end}
+use Rattle.std.proofs.Common.{rules}
+use Rattle.session.specs.FeedLaws.{feed_step, feed_lost}
 use Rattle.session.proofs.feed.feed.Goals as goal
 
-pub loop-i-init : goal.loop-i-init
-loop-i-init c = (search (rules, feed_start), search rules)
+pub returns-in_err-state : goal.returns-in_err-state
+returns-in_err-state c = feed_lost _ (search rules) c.loop-b.invariant (search rules) c.in_err-state.ensures
 
-pub loop-i-preserved : goal.loop-i-preserved
-loop-i-preserved c = (search (rules, feed_step), search rules)
-
-pub returns : goal.returns
-returns c = search (rules, feed_end)
+pub loop-b-preserved : goal.loop-b-preserved
+loop-b-preserved c = feed_step _ (search rules) c.loop-b.invariant c.in_ok-state.ensures

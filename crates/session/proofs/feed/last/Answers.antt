@@ -1,4 +1,4 @@
-use borrow.Author.Rules.{rules}
+use Rattle.std.proofs.Common.{rules}
 use Rattle.session.specs.FeedLaws.{last_line, last_none}
 use Rattle.session.proofs.feed.last.Goals as goal
 
