@@ -24,9 +24,6 @@ compact_step-k-requires c =
       ),
     )
 
-pub loop-m-preserved : goal.loop-m-preserved
-loop-m-preserved c = c.compact_step-k.ensures.on _ _ c.requires.1.1 c.loop-m.invariant
-
 pub returns : goal.returns
 returns c =
     let done : c.loop-m.m ≡ c.args.count = omega (arith, c.loop-m.invariant.within) in

@@ -1,5 +1,4 @@
 use Rattle.diagram.specs.CompactLaws.{compact_dead, compact_live}
-use native.Mathlib.Omega.{arith}
 use mathlib.Core.Path.{sym, ◌∙◌}
 use Rattle.diagram.proofs.compact.compact_step.Goals as goal
 
@@ -7,18 +6,6 @@ pub returns-then-mark-eq0 : goal.returns-then-mark-eq0
 returns-then-mark-eq0 c = record {
   on = λ a f _ k. compact_dead a f _ _ _ _ k c.requires.0 (sym c.get-mark.ensures.0 ∙ c.if-mark-eq0.true);
 }
-
-pub shift-requires : goal.shift-requires
-shift-requires c = (
-  omega arith,
-  (
-    omega (arith, c.requires),
-    (
-      omega (arith, c.requires),
-      c.requires.1.1.1.1 (λ e. c.if-mark-eq0.false (c.get-mark.ensures.0 ∙ e)),
-    ),
-  ),
-)
 
 pub returns : goal.returns
 returns c = rw c.shift.ensures.0 record {

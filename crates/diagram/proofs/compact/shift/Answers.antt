@@ -1,13 +1,6 @@
 use Rattle.diagram.specs.CompactLaws.{shift_by}
 use Rattle.diagram.proofs.compact.shift.Goals as goal
 
-pub forward-low-requires : goal.forward-low-requires
-forward-low-requires c = rw c.read-x.ensures.0 c.requires.1.1.1.low_within
-
-pub forward-high-requires : goal.forward-high-requires
-forward-high-requires c = rw c.read-x.ensures.0
-    c.requires.1.1.1.high_within
-
 pub returns : goal.returns
 returns c = shift_by _ _ _
     c.read-x.ensures.0 c.read-x.ensures.1

@@ -5,15 +5,6 @@ pub returns-then-get-eq0 : goal.returns-then-get-eq0
 returns-then-get-eq0 c = children_of_unmarked c.get.ensures.0
     c.requires.0.first c.requires.1.0 c.if-get-eq0.true
 
-pub mark-requires : goal.mark-requires
-mark-requires c = rw c.read-x.ensures.0 c.requires.1.1.low_within
-
-pub mark-requires-2 : goal.mark-requires-2
-mark-requires-2 c = rw (
-  c.mark.ensures.long,
-  c.read-x.ensures.0,
-) c.requires.1.1.high_within
-
 pub returns : goal.returns
 returns c = children_of_marked c.get.ensures.0 c.requires.0.first c.requires.1.0
     c.if-get-eq0.false c.read-x.ensures.0
