@@ -8,9 +8,9 @@ ghost use Rattle.diagram.specs.Build.{NoneOwned, NoneUsed, gate_part, BitsBelow}
 ghost use Rattle.diagram.specs.Diagram.{IsSound, KeepsCache, Does};
 
 use crate::diagram::{Diagram, Full};
+use crate::entry;
 use crate::gate::{Gate, Qubit};
 use crate::node::{Assignment, Edge, INDICES, Index};
-use crate::entry;
 
 // v with bit k set.
 fn with_bit(v: Assignment, k: Index) -> Assignment

@@ -11,9 +11,9 @@ pub type Epoch = u64;
 
 #[derive(Clone, Copy)]
 pub enum Op {
-    Sum,
-    Contract,
-    Lows,
+    Sum = 0,
+    Contract = 1,
+    Lows = 2,
 }
 
 impl Op {
@@ -21,11 +21,7 @@ impl Op {
     fn code(self) -> u64
         ensures { (result ≡ code_of self) × (result < 3) }
     {
-        match self {
-            Op::Sum => 0,
-            Op::Contract => 1,
-            Op::Lows => 2,
-        }
+        self as u64
     }
 }
 

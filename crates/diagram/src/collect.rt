@@ -41,6 +41,7 @@ fn fewer(count: NodeCount, buckets: BucketCount) -> BucketCount
     ensures { 1 ≤ buckets → (1 ≤ result) × (result ≤ buckets) }
 {
     let mut b = buckets;
+    // Halving has no range.
     while count < b / 8 {
         b = b / 2;
     }

@@ -33,16 +33,12 @@ fn shift(s: &mut [u8], n: NodeNumber, k: NodeNumber)
     let low = forward(s, x.low.node);
     let high = forward(s, x.high.node);
     let y = Node {
-        index: x.index,
-        low: Edge {
-            weight: x.low.weight,
-            node: low,
-        },
+        low: Edge { node: low, ..x.low },
         high: Edge {
-            weight: x.high.weight,
             node: high,
+            ..x.high
         },
-        mask: x.mask,
+        ..x
     };
     node::write(s, k, y);
     fields::set(s, 5, n - 1, k);

@@ -29,7 +29,10 @@ pub(crate) fn added(a: Edge, b: Edge) -> Edge
     if weight == 0 {
         return Edge::ZERO;
     }
-    Edge { weight, node: a.node }
+    Edge {
+        weight,
+        node: a.node,
+    }
 }
 
 impl<'a> Diagram<'a> {

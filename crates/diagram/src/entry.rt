@@ -13,7 +13,7 @@ fn bit(v: Assignment, k: Index) -> usize
     requires { k < 64 }
     ensures { (result ≡ bit_of (bits v k)) × (result < 2) }
 {
-    if mask::has(v, k) { 1 } else { 0 }
+    usize::from(mask::has(v, k))
 }
 
 // A gate on the qubit q: rows are its fresh index, columns its middle one.

@@ -31,10 +31,8 @@ fn mark_children(s: &mut [u8], count: NodeCount, n: NodeNumber)
         return;
     }
     let x = node::read(s, n);
-    let low = x.low.node;
-    let high = x.high.node;
-    mark(s, low);
-    mark(s, high);
+    mark(s, x.low.node);
+    mark(s, x.high.node);
 }
 
 // Marks what the marked nodes of 1 .. count lead to.

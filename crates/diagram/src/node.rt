@@ -4,7 +4,7 @@ ghost use Rattle.diagram.specs.Node.{capacity as capacity_of, RecordWithin, Node
 
 use crate::fields;
 
-// Below the field's modulus.
+// The field's, below its modulus.
 pub type Weight = u64;
 
 // Nodes are numbered from 1; node 0 is the constant 1.
@@ -12,6 +12,8 @@ pub type NodeNumber = usize;
 
 pub type NodeCount = usize;
 
+// (A plain number, as a qubit is: 3q + 1 and k - 1 are computed with it all over, and a struct that says that it is
+// below 24 would be opened and made anew each time.)
 pub type Index = usize;
 
 // A set of indices: its bits are the members.
@@ -48,8 +50,7 @@ pub struct Node {
 pub(crate) fn capacity(s: &[u8]) -> NodeCount
     ensures { result ≡ capacity_of s.now }
 {
-    let n = s.len() / 16;
-    if n < 65535 { n } else { 65535 }
+    (s.len() / 16).min(65535)
 }
 
 // Node n.

@@ -4,7 +4,7 @@ ghost use Rattle.diagram.specs.Registers.{empty_register, empty_registers, GetEn
 
 use crate::node::Edge;
 
-// One of the registers 0 to 15.
+// One of the registers 0 to 15. (A plain number: a line's numbers are checked only after they are read.)
 pub type RegisterNumber = usize;
 
 pub type Register = Option<Edge>;

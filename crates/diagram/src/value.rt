@@ -14,6 +14,7 @@ impl<'a> Diagram<'a> {
         ensures { Represents result (valued (tensor self.now a) v) }
     {
         let mut e = a;
+        // How many nodes there are shows only on the way, so no range has them.
         while e.node != 0 {
             let k = self.top(e);
             let high = mask::has(v, k);

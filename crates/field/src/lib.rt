@@ -5,7 +5,8 @@ ghost use Rattle.std.specs.Prelude.{◌≡◌, ◌%◌, ◌≤◌, ◌<◌};
 ghost use Rattle.field.specs.Weight.{modulus, to_weight, plus_w, times_w, inverse_w};
 ghost use Rattle.field.specs.Field.{Represents, DescentStep};
 
-// A weight, below the modulus: what its functions ask for and promise.
+// A weight, below the modulus: what its functions ask for and promise. (A plain number: a record's bytes are read as
+// weights where nothing says yet that they are below the modulus.)
 pub type Weight = u64;
 
 pub const MODULUS: u64 = 65537;
@@ -73,6 +74,7 @@ pub fn inverse(a: Weight) -> Weight
         return 0;
     }
     let mut d = Descent { factor: 1, rest: a };
+    // How many steps there are shows only on the way, so no range has them.
     while 1 < d.rest {
         d = descend(d);
     }

@@ -1,4 +1,5 @@
-// The gates' names.
+// The gates' names. (Gates on one qubit and on two are apart here, in `gate` and in `check`: they differ in how many
+// checks there are, not in a type or a number. Why no `match`: words.rt.)
 ghost use Rattle.std.specs.Prelude.{◌≡◌};
 ghost use Rattle.text.specs.Names.{one_qubit, two_qubits};
 

@@ -68,6 +68,7 @@ impl<'b, 'a> Engine<'b, 'a> {
             bytes: 0,
             place: 0,
         };
+        // The place goes from line to line, past bytes that `split::end` has passed.
         while p.place < text.len() {
             if p.lines == limit {
                 return p;

@@ -11,9 +11,9 @@ use crate::answer::Answer;
 use crate::call::{Call, Refusal};
 use crate::engine::Engine;
 use crate::limits::{Assignment, Mask};
+use diagram::compare;
 use diagram::compare::Comparison;
 use diagram::node::Index;
-use diagram::compare;
 use diagram::registers::RegisterNumber;
 
 fn comparison(c: Comparison) -> Answer

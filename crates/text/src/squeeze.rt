@@ -4,7 +4,7 @@ ghost use Rattle.text.specs.Limits.{line_room};
 ghost use Rattle.text.specs.Squeeze.{SqueezeFits, NoneEnsures, PushEnsures};
 
 // What is kept of a line: how many bytes, tabs, and bytes of the present field. A line may go on for ever, so these
-// stop at 59, 5 and 9.
+// stop at 59, 5 and 9. (The buffer is the caller's: no heap, and a struct over it could not be copied between reads.)
 #[derive(Clone, Copy)]
 pub struct Squeeze {
     pub length: usize,
