@@ -1,5 +1,5 @@
 -- Laws of renumbered registers: the same weights and tensors, their nodes' new numbers.
-use Rattle.std.specs.Prelude.{◌≡◌, ◌≢◌, length, get_or, set, Some, None}
+use Rattle.std.specs.Prelude.{◌≡◌, ◌≢◌, false, length, get_or, set, Some, None}
 use Rattle.std.proofs.Math.Path.{refl}
 use Rattle.std.proofs.Common.{ap, ap₂, ◌∙◌, arith, add-one}
 use mathlib.Core.List.{List, [], ◌∷◌}
@@ -10,9 +10,20 @@ use Rattle.diagram.specs.Tensor.{scale}
 use Rattle.diagram.specs.Tally.{Set}
 use Rattle.diagram.specs.Meaning.{tensor_at, edge_in}
 use Rattle.diagram.specs.Mark.{AllMarked}
-use Rattle.diagram.specs.Registers.{Register, empty_register, edge_of, holds, holds_all, weights_of, edges_of}
-use Rattle.diagram.specs.Registers.{RegistersValid, AllValid}
+use Rattle.diagram.specs.Registers.{Register, empty_register, occupied, edge_of, holds, holds_all, weights_of}
+use Rattle.diagram.specs.Registers.{edges_of, RegistersValid, AllValid}
+use Rattle.diagram.specs.RegistersLaws.{register_empty}
+use Rattle.diagram.specs.declared.node.Edge.{Edge}
 use Rattle.diagram.specs.Compact.{renumber_first, renumber_registers, renumber_register}
+
+pub renumber_filled : (g : ℕ → ℕ) {n : ℕ} {r : Register} {e : Edge} → r ≡ Some e → n ≡ g e.node
+    → Some (record { weight = e.weight; node = n }) ≡ renumber_register g r
+unfolding renumber_register
+renumber_filled g q n = rw (q, n)
+
+pub renumber_empty : (g : ℕ → ℕ) (r : Register) → occupied r ≡ false → r ≡ renumber_register g r
+unfolding renumber_register
+renumber_empty g r f = rw (register_empty r f)
 
 renumber_weight : (g : ℕ → ℕ) (r : Register) → (edge_of (renumber_register g r)).weight ≡ (edge_of r).weight
 unfolding renumber_register
