@@ -149,20 +149,20 @@ module _ {p q : ℕ} {x : Shape} {T : Tensor indices} (e : x ≡ Two p q) (h : R
       (second_free (set_of s st)) _))
 
   module _ {c₁ s s₁ : List ℕ} {st t : State} {y : Edge} (w : RefinesCached c₁ s s₁ st t (low (3 * p + 2) T) (Ok y))
-      where
-    pub ready_second : OperationRequires c₁ s₁ t y y
-    ready_second = cached_requires w
+    where
+      pub ready_second : OperationRequires c₁ s₁ t y y
+      ready_second = cached_requires w
 
-    pub free_second : Free (3 * q + 1) (tensor_of s₁ t y)
-    free_second = rw (← answered w) (second_free (set_of s st)).0
+      pub free_second : Free (3 * q + 1) (tensor_of s₁ t y)
+      free_second = rw (← answered w) (second_free (set_of s st)).0
 
-    pub renamed_two : (c₂ s₂ : List ℕ) (u : State) (r : Result Edge Full)
-        → RefinesCached c₂ s₁ s₂ t u (low (3 * q + 2) (tensor_of s₁ t y)) r
-        → RefinesCached c₂ s s₂ st u (rename_step (qubit_list x) T) r
-    unfolding rename_step ◌>>=◌ return
-    renamed_two c₂ s₂ u r v =
-        rw e (cached_then c₂ s₂ u (rename_step (p ∷ q ∷ []) T) (low (3 * q + 2) (tensor_of s₁ t y)) r w
-        (rw w.step.is) v)
+      pub renamed_two : (c₂ s₂ : List ℕ) (u : State) (r : Result Edge Full)
+          → RefinesCached c₂ s₁ s₂ t u (low (3 * q + 2) (tensor_of s₁ t y)) r
+          → RefinesCached c₂ s s₂ st u (rename_step (qubit_list x) T) r
+      unfolding rename_step ◌>>=◌ return
+      renamed_two c₂ s₂ u r v =
+          rw e (cached_then c₂ s₂ u (rename_step (p ∷ q ∷ []) T) (low (3 * q + 2) (tensor_of s₁ t y)) r w
+          (rw w.step.is) v)
 
 -- the contraction, and then the fresh indices
 
@@ -184,20 +184,20 @@ module _ {m : ℕ} (x : Shape) (k : m ≡ middles (qubit_list x)) (u : Rising in
       (rw over (rename_step_grows 0 (qubit_list x) _ u (cont_all_free (qubit_list x) A T (set_of s st) u) _))
 
   module _ {c₁ s s₁ : List ℕ} {st t : State} {y : Edge} (w : RefinesCached c₁ s s₁ st t (cont A T (bits m)) (Ok y))
-      where
-    pub contracted_ready : OperationRequires c₁ s₁ t y y
-    contracted_ready = cached_requires w
+    where
+      pub contracted_ready : OperationRequires c₁ s₁ t y y
+      contracted_ready = cached_requires w
 
-    pub contracted_renamable : Renamable (qubit_list x) (tensor_of s₁ t y)
-    contracted_renamable = subst (Renamable (qubit_list x)) (answered w) (loose (set_of s st))
+      pub contracted_renamable : Renamable (qubit_list x) (tensor_of s₁ t y)
+      contracted_renamable = subst (Renamable (qubit_list x)) (answered w) (loose (set_of s st))
 
-    pub contract_rename_refines : (c₂ s₂ : List ℕ) (q : State) (r : Result Edge Full)
-        → RefinesCached c₂ s₁ s₂ t q (rename_step (qubit_list x) (tensor_of s₁ t y)) r
-        → RefinesCached c₂ s s₂ st q (contract_step (qubit_list x) T A) r
-    unfolding contract_step ◌>>=◌
-    contract_rename_refines c₂ s₂ q r v =
-        cached_then c₂ s₂ q (contract_step (qubit_list x) T A) (rename_step (qubit_list x) (tensor_of s₁ t y)) r w
-        (rw (← over, w.step.is)) v
+      pub contract_rename_refines : (c₂ s₂ : List ℕ) (q : State) (r : Result Edge Full)
+          → RefinesCached c₂ s₁ s₂ t q (rename_step (qubit_list x) (tensor_of s₁ t y)) r
+          → RefinesCached c₂ s s₂ st q (contract_step (qubit_list x) T A) r
+      unfolding contract_step ◌>>=◌
+      contract_rename_refines c₂ s₂ q r v =
+          cached_then c₂ s₂ q (contract_step (qubit_list x) T A) (rename_step (qubit_list x) (tensor_of s₁ t y)) r w
+          (rw (← over, w.step.is)) v
 
 -- the gate's tensor, and then the others
 
