@@ -2,7 +2,7 @@
 -- lines.
 use Rattle.std.proofs.Math.Option.{Option, none, some}
 use Rattle.std.specs.Prelude.{Bool, true, false, ◌≡◌, ◌↔◌, List, [], ℕ, ◌^◌, ◌<◌, ◌-◌, ◌*◌, ◌≤◌, suc, get_or, length}
-use Rattle.std.specs.Prelude.{take}
+use Rattle.std.specs.Prelude.{take, IsErr}
 use Rattle.diagram.specs.Tensor.{indices, Tensor, value, top, fix, Normal, scale, index_count}
 use Rattle.diagram.specs.Tally.{Set}
 use Rattle.diagram.specs.Node.{node_at, listed}
@@ -14,7 +14,6 @@ use Rattle.text.specs.Text.{Bytes}
 use Rattle.text.specs.Limits.{register_count}
 use Rattle.text.specs.Line.{read_line}
 use Rattle.text.specs.Print.{written}
-use Rattle.text.specs.Answer.{is_no}
 use Rattle.text.specs.Session.{node_count, Tally, TallyRun, Capacity, answer_read, run}
 use Rattle.text.specs.declared.progress.SessionResult.{SessionResult}
 
@@ -111,7 +110,7 @@ pub record OneLine (c : Capacity) (line : Bytes) (t : Tally indices) (s s' : Byt
   where
     pub lines : r'.lines ≡ suc r.lines
     pub long : length s' ≡ length s
-    pub refused : is_no (answer_read c (read_line line) t).0 ≡ true
+    pub refused : IsErr (answer_read c (read_line line) t).0
         → Unchanged s s' r.count r'.count r.registers.all r'.registers.all
 
 -- "all of this holds at the start and after each line answered": a run of the lines ls, from the store s₀ and the

@@ -1,5 +1,5 @@
 -- Laws of Answer: an answer has at most 16 bytes.
-use Rattle.std.specs.Prelude.{[], ◌∷◌, ◌++◌, ℕ, ◌+◌, ◌≤◌, ◌<◌, length}
+use Rattle.std.specs.Prelude.{[], ◌∷◌, ◌++◌, ℕ, ◌+◌, ◌≤◌, ◌<◌, length, Result, Ok, Err}
 use Rattle.std.proofs.Common.{arith}
 use Rattle.std.proofs.Math.ListN.{length-append}
 use Rattle.text.specs.Text.{Bytes, LF, bytes}
@@ -10,7 +10,7 @@ use Rattle.text.specs.Answer.{labelled_line, line_of_fields, printed, SmallAnswe
 use Rattle.text.specs.PrintLaws.{wrote_then, decimal_length, wrote_room}
 use Rattle.text.specs.declared.call.Refusal.{Refusal}
 use Rattle.text.specs.declared.answer.Answer.{Answer}
-use Rattle.text.specs.declared.answer.Answer.TheVariants.{Ok, No, Value, Same, Factor, Differ, Mask}
+use Rattle.text.specs.declared.answer.Answer.TheVariants.{Done, Value, Same, Factor, Differ, Mask}
 use Rattle.text.specs.declared.call.Refusal.TheVariants as refusal
 
 module _ (word : Bytes) (n : ℕ) (short : length word < 8) (small : n ≤ last_mask) where
@@ -48,17 +48,17 @@ refusal_small refusal.Equal = omega arith
 refusal_small refusal.Depends = omega arith
 refusal_small refusal.Full = omega arith
 
-pub printed_short : (a : Answer) → SmallAnswer a → length (printed a) ≤ answer_room
+pub printed_short : (a : Result Answer Refusal) → SmallAnswer a → length (printed a) ≤ answer_room
 unfolding printed line_of_fields
-printed_short (Ok n) h = labelled_short (bytes "ok\t") n (omega arith) (weight_small h)
-printed_short (No r) h = labelled_short (bytes "no\t") (refusal_number r) (omega arith) (refusal_small r)
-printed_short (Value w) h = labelled_short (bytes "v\t") w (omega arith) (weight_small h)
-printed_short Same h = omega arith
-printed_short (Factor f) h = labelled_short (bytes "factor\t") f (omega arith) (weight_small h)
-printed_short Differ h = omega arith
-printed_short (Mask m) h = labelled_short (bytes "m\t") m (omega arith) h
+printed_short (Ok (Done n)) h = labelled_short (bytes "ok\t") n (omega arith) (weight_small h)
+printed_short (Err r) h = labelled_short (bytes "no\t") (refusal_number r) (omega arith) (refusal_small r)
+printed_short (Ok (Value w)) h = labelled_short (bytes "v\t") w (omega arith) (weight_small h)
+printed_short (Ok Same) h = omega arith
+printed_short (Ok (Factor f)) h = labelled_short (bytes "factor\t") f (omega arith) (weight_small h)
+printed_short (Ok Differ) h = omega arith
+printed_short (Ok (Mask m)) h = labelled_short (bytes "m\t") m (omega arith) h
 
-pub answer_written : {l : Bytes} {at : ℕ} (a : Answer) {l' : Bytes} {e : ℕ} → SmallAnswer a
+pub answer_written : {l : Bytes} {at : ℕ} (a : Result Answer Refusal) {l' : Bytes} {e : ℕ} → SmallAnswer a
     → WriteEnsures l at (printed a) l' e
     → AnswerWritten l at a l' e
 answer_written a s w = record { exact = w.exact; after = w.after; short = printed_short a s }

@@ -25,7 +25,7 @@ use Rattle.text.specs.Apply.{AllFree, rename_step, drop_collect, contract_step, 
 use Rattle.text.specs.ApplyLaws.{low_free, rename_step_grows, cont_all_free, contract_step_grows}
 use Rattle.text.specs.RunsLaws.{at_line_append}
 use Rattle.diagram.specs.declared.gate.Gate.{Gate}
-use Rattle.text.specs.declared.ruling.Ruling.TheVariants.{No}
+use Rattle.text.specs.Ruling.{no_at}
 use Rattle.text.specs.declared.check.Fault.TheVariants.{Full}
 use Rattle.text.specs.declared.call.Refusal.TheVariants as refusal
 use Rattle.text.specs.declared.call.Call.TheVariants as call
@@ -184,28 +184,28 @@ gate_performs {d} c line r g T t more small sixteen holds rising =
 
 cont_empty : {d : ℕ} (c : Capacity) (line r m : ℕ) (t : Tally d) (more : List NumberedCall)
     → get_or t.registers r none ≡ none
-    → ruling_at_end c (perform c ((line, call.Cont r 2 r m) ∷ more) t) ≡ No Full line
+    → ruling_at_end c (perform c ((line, call.Cont r 2 r m) ∷ more) t) ≡ no_at Full line
 unfolding perform answer with_register with_tensor
 cont_empty {d} c line r m t more h = rw h (go (get_or t.registers 2 none))
   where
     go : (o : Option (Tensor d))
         → ruling_at_end c (continue_with line (with_tensor o t (λ A. refuse refusal.Empty t)) (perform c more))
-        ≡ No Full line
+        ≡ no_at Full line
     go none = unfold refuse continue_with ruling_at_end in refl
     go (some A) = unfold refuse continue_with ruling_at_end in refl
 
 ruling_settle : {d : ℕ} (c : Capacity) (line r : ℕ) (p : Tensor d × Set d) (t : Tally d) (f : Tally d → PerformResult d)
-    → ruling_at_end c (f (settled_tally r p t)) ≡ No Full line
-    → ruling_at_end c (continue_with line (settle c r p t) f) ≡ No Full line
+    → ruling_at_end c (f (settled_tally r p t)) ≡ no_at Full line
+    → ruling_at_end c (continue_with line (settle c r p t) f) ≡ no_at Full line
 ruling_settle c line r p t f h = rw (settle_on c line r p t f) (go (fits c (length p.1)))
   where
-    go : (b : Bool) → ruling_at_end c (cond b (f (settled_tally r p t)) (refused_at line refusal.Full)) ≡ No Full line
+    go : (b : Bool) → ruling_at_end c (cond b (f (settled_tally r p t)) (refused_at line refusal.Full)) ≡ no_at Full line
     go true = h
     go false = unfold ruling_at_end in refl
 
 pub gate_empty : {d : ℕ} (c : Capacity) (line r : ℕ) (g : Gate) (t : Tally d) (more : List NumberedCall)
     → r < 2 → get_or t.registers r none ≡ none
-    → ruling_at_end c (perform c (at_line line (gate_calls r g) ++ more) t) ≡ No Full line
+    → ruling_at_end c (perform c (at_line line (gate_calls r g) ++ more) t) ≡ no_at Full line
 unfolding perform answer settled_tally
 gate_empty {d} c line r g t more small empty =
     let p = build (gate_tensor d g) t.nodes in

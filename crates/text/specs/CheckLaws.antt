@@ -1,5 +1,5 @@
 -- Laws of Check: a line of a verdict text, read once and again.
-use Rattle.std.specs.Prelude.{◌≡◌, refl, Bool, true, false, not, cond, ◌&&◌, ◌≢◌, List, [], ◌∷◌, ℕ, ◌≤◌, ◌<◌, eqb, leb}
+use Rattle.std.specs.Prelude.{◌≡◌, refl, Bool, true, false, not, cond, ◌&&◌, ◌≢◌, List, [], ◌∷◌, ℕ, eqb, leb}
 use Rattle.std.specs.Prelude.{Option, Some, None, Result, Ok, Err, take}
 use Rattle.std.proofs.Common.{sym, ◌∙◌, arith, ltb-true, leb-true}
 use Rattle.std.proofs.lemmas.Bool.{eqb-false}

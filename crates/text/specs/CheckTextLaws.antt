@@ -15,7 +15,7 @@ use Rattle.text.specs.declared.check.FaultAt.{FaultAt}
 use Rattle.text.specs.declared.check.Item.{Item}
 use Rattle.diagram.specs.declared.gate.Gate.{Gate}
 use Rattle.text.specs.declared.check.Fault.{Fault}
-use Rattle.text.specs.declared.check.Fault.TheVariants.{Parting, Header as BadHeader}
+use Rattle.text.specs.declared.check.Fault.TheVariants.{Header as BadHeader}
 use Rattle.text.specs.declared.check.Item.TheVariants as item
 
 -- It is what the definition says.

@@ -1,5 +1,5 @@
 -- What the engine holds between two lines, read as a tally, and how a call that sets a register ends.
-use Rattle.std.specs.Prelude.{List, ◌≡◌, true, ℕ, Result, MatchResult, length}
+use Rattle.std.specs.Prelude.{List, ◌≡◌, ℕ, Result, Err, IsErr, MatchResult, length}
 use Rattle.diagram.specs.Tensor.{indices}
 use Rattle.diagram.specs.Store.{set_of}
 use Rattle.diagram.specs.Registers.{holds_all}
@@ -10,11 +10,10 @@ use Rattle.diagram.specs.Tally.{Step}
 use Rattle.diagram.specs.Node.{capacity}
 use Rattle.diagram.specs.Diagram.{KeepsLoans}
 use Rattle.diagram.specs.Operation.{RefinesCached}
-use Rattle.text.specs.Answer.{is_no, SmallAnswer}
+use Rattle.text.specs.Answer.{SmallAnswer}
 use Rattle.text.specs.Session.{Tally, empty_tally, at_most, settle}
 use Rattle.text.specs.Agrees.{Unchanged}
 use Rattle.text.specs.declared.engine.Engine.{Engine}
-use Rattle.text.specs.declared.answer.Answer.TheVariants.{No}
 use Rattle.text.specs.declared.call.Refusal.{Refusal}
 use Rattle.text.specs.declared.answer.Answer.{Answer}
 use Rattle.text.specs.declared.call.Refusal.TheVariants.{Full}
@@ -33,10 +32,10 @@ contents e = record { state = e.diagram.now.state; registers = e.registers }
 
 -- a call's answer, and what it leaves
 pub record Reply : Type 0 where
-  pub answer : Answer
+  pub answer : Result Answer Refusal
   pub engine : Contents
 
-abbrev pub reply : Answer → Engine → Reply
+abbrev pub reply : Result Answer Refusal → Engine → Reply
 reply a e = record { answer = a; engine = contents e }
 
 -- The tensors of the store's nodes, in order, and what the registers hold of them.
@@ -55,14 +54,14 @@ pub record EngineStartEnsures (c' s s' : List ℕ) (e : Contents) : Type 0 where
 
 -- "A call whose set would exceed the capacity is refused as 8 (full), and set and registers are as before it."
 pub record RefuseFullEnsures (c' s s' : List ℕ) (e : Contents) (r : Reply) : Type 0 where
-  pub answer : r.answer ≡ No Full
+  pub answer : r.answer ≡ Err Full
   pub restored : RollbackEnsures c' s s' e.state r.engine.state
   pub registers : r.engine.registers.all ≡ e.registers.all
 
 -- "a refused line changes no register and leaves no new node"
 abbrev pub RefusedUnchanged : List ℕ → List ℕ → Contents → Reply → Type 0
 RefusedUnchanged s s' e r =
-    is_no r.answer ≡ true
+    IsErr r.answer
     → Unchanged s s' e.state.count r.engine.state.count e.registers.all r.engine.registers.all
 
 -- "A remembered result made before a collection, or by an earlier call that was refused, is never used.": no entry of
@@ -71,7 +70,7 @@ abbrev pub Forgotten : List ℕ → Reply → Type 0
 Forgotten c' r = AllEarlier c' r.engine.state.epoch
 
 abbrev pub FullForgets : List ℕ → Reply → Type 0
-FullForgets c' r = r.answer ≡ No Full → Forgotten c' r
+FullForgets c' r = r.answer ≡ Err Full → Forgotten c' r
 
 -- what a step that did not fit leaves can be rolled back
 abbrev pub SettleRequires : List ℕ → List ℕ → State → Result Edge steps.Full → Type 0
@@ -104,7 +103,7 @@ Starts e e' = EngineStartEnsures e'.diagram.now.cache.now e.diagram.now.store.no
 abbrev pub IsEngine : Engine → Type 0
 IsEngine e = EngineInvariant e.diagram.now.cache.now e.diagram.now.store.now (contents e)
 
-abbrev pub Sets : Engine → Engine → ℕ → Step indices → Answer → Type 0
+abbrev pub Sets : Engine → Engine → ℕ → Step indices → Result Answer Refusal → Type 0
 Sets e e' d f a = SetsRegister e'.diagram.now.cache.now e.diagram.now.store.now e'.diagram.now.store.now (contents e) d f
     (reply a e')
 
@@ -112,13 +111,13 @@ Sets e e' d f a = SetsRegister e'.diagram.now.cache.now e.diagram.now.store.now 
 abbrev pub before_step : Engine → State → Contents
 before_step e st = record { state = st; registers = e.registers }
 
-abbrev pub RefusesFull : Engine → Engine → State → Answer → Type 0
-RefusesFull e e' st a = RefuseFullEnsures e'.diagram.now.cache.now e.diagram.now.store.now e'.diagram.now.store.now
-    (before_step e st) (reply a e')
+abbrev pub RefusesFull : Engine → Engine → State → Refusal → Type 0
+RefusesFull e e' st why = RefuseFullEnsures e'.diagram.now.cache.now e.diagram.now.store.now e'.diagram.now.store.now
+    (before_step e st) (reply (Err why) e')
 
 abbrev pub MaySettle : Engine → State → Result Edge steps.Full → Type 0
 MaySettle e st m = SettleRequires e.diagram.now.cache.now e.diagram.now.store.now st m
 
-abbrev pub Settles : Engine → Engine → State → ℕ → Result Edge steps.Full → Answer → Type 0
+abbrev pub Settles : Engine → Engine → State → ℕ → Result Edge steps.Full → Result Answer Refusal → Type 0
 Settles e e' st d m a = SettleEnsures e.diagram.now.cache.now e.diagram.now.store.now e'.diagram.now.cache.now
     e'.diagram.now.store.now (before_step e st) e.diagram.now.state d m (reply a e')

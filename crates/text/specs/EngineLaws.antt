@@ -1,9 +1,8 @@
 -- Laws of Engine: the start, and how a step is settled.
-use Rattle.std.specs.Prelude.{◌≡◌, refl, List, false, ℕ, ◌≤◌, ◌<◌, length, set, Result, Some}
-use Rattle.std.specs.Prelude as prelude
-use Rattle.std.proofs.Common.{◌∙◌, ap, sym, subst, arith, le-leb}
+use Rattle.std.specs.Prelude.{◌≡◌, refl, List, ℕ, ◌≤◌, ◌<◌, length, set, Result, Ok, Err, is_err, false, Some}
+use Rattle.std.proofs.Common.{◌∙◌, ap, sym, arith, le-leb}
 use Rattle.std.proofs.lemmas.Bool.{false≢true, lt-leb}
-use Rattle.diagram.specs.Restore.{StartEnsures, RollbackEnsures, RollbackRequires}
+use Rattle.diagram.specs.Restore.{StartEnsures, RollbackEnsures}
 use Rattle.diagram.specs.RestoreLaws.{full_rollback}
 use Rattle.diagram.specs.Registers.{Register, empty_registers, holds, holds_all, RegistersValid}
 use Rattle.diagram.specs.RegistersLaws.{holds_set}
@@ -18,7 +17,6 @@ use Rattle.diagram.specs.StoreLaws.{set_length, refines_fits, refines_stays}
 use Rattle.diagram.specs.Operation.{RefinesCached}
 use Rattle.diagram.specs.Weights.{to_weight, modulus}
 use Rattle.diagram.specs.BuildLaws.{constant_valid, constant_tensor}
-use Rattle.text.specs.Answer.{is_no}
 use Rattle.text.specs.Session.{empty_tally, at_most, node_count, accept, settle, refuse}
 use Rattle.text.specs.Agrees.{Unchanged}
 use Rattle.text.specs.Engine.{Contents, Reply, tally_of, EngineStartEnsures, RefuseFullEnsures, SetsRegister}
@@ -27,7 +25,8 @@ use Rattle.text.specs.Engine.{EngineInvariant, SettleRequires}
 use Rattle.diagram.specs.declared.node.Edge.{Edge}
 use Rattle.diagram.specs.declared.make.State.{State}
 use Rattle.diagram.specs.declared.registers.Registers.{Registers}
-use Rattle.text.specs.declared.answer.Answer.TheVariants.{Ok, No}
+use Rattle.text.specs.declared.answer.Answer.TheVariants.{Done}
+use Rattle.text.specs.declared.call.Refusal.{Refusal}
 use Rattle.text.specs.declared.call.Refusal.TheVariants.{Full}
 use Rattle.text.specs.declared.answer.Answer.{Answer}
 use Rattle.diagram.specs.declared.diagram.Full as steps
@@ -45,7 +44,7 @@ settle_edge : {s s' : List ℕ} {e : Contents} {t : State} {rs : Registers} (d :
     → RegistersValid e.state.count e.registers.all
     → RefinesEdge s s' e.state t f x → rs.all ≡ set e.registers.all d (Some x)
     → settle (at_most (capacity s)) d (f (set_of s e.state)) (tally_of s e)
-    ≡ (Ok t.count, tally_of s' (record { state = t; registers = rs }))
+    ≡ (Ok (Done t.count), tally_of s' (record { state = t; registers = rs }))
 unfolding settle accept node_count tally_of holds tensor_of
 settle_edge {s} {s'} {e} {t} d {x = x} g w q =
     let fit : length (set_of s' t) ≤ capacity s = rw w.is at (refines_fits w) in
@@ -62,18 +61,18 @@ settle_edge {s} {s'} {e} {t} d {x = x} g w q =
 settle_full : {s s₁ : List ℕ} (s' : List ℕ) {e : Contents} (n : Contents) (d : ℕ) {f : Step indices}
     → RefinesFull s s₁ e.state f → nodes_of s' n.state ≡ nodes_of s₁ e.state
     → n.registers.all ≡ e.registers.all
-    → settle (at_most (capacity s)) d (f (set_of s e.state)) (tally_of s e) ≡ (No Full, tally_of s' n)
+    → settle (at_most (capacity s)) d (f (set_of s e.state)) (tally_of s e) ≡ (Err Full, tally_of s' n)
 unfolding settle refuse tally_of set_of
 settle_full s' n d w q r = rw (lt-leb _ _ w.full, r, q ∙ w.kept)
 
 pub refuse_full_ensures : {c' s s' : List ℕ} {e : Contents} {st : State} → RollbackEnsures c' s s' e.state st
     → RefuseFullEnsures c' s s' e
-    (record { answer = No Full; engine = record { state = st; registers = e.registers } })
+    (record { answer = Err Full; engine = record { state = st; registers = e.registers } })
 refuse_full_ensures b = record { answer = refl; restored = b; registers = refl }
 
 -- an accepted call is not refused as full
-pub never_full : {X : Type 0} (a : Answer) → is_no a ≡ false → a ≡ No Full → X
-never_full a p q = absurd (false≢true (sym p ∙ ap is_no q))
+pub never_full : {X : Type 0} (a : Result Answer Refusal) → is_err a ≡ false → a ≡ Err Full → X
+never_full a p q = absurd (false≢true (sym p ∙ ap is_err q))
 
 nodes_unchanged : {s s' : List ℕ} (st st' : State) {rs rs' : List Register} → nodes_of s' st' ≡ nodes_of s st
     → rs' ≡ rs
@@ -82,11 +81,11 @@ unfolding nodes_of
 nodes_unchanged st st' p q = record { nodes = p; registers = q }
 
 pub settle_ensures_full : {c s c' s' : List ℕ} {e : Contents} {t : State} {d : ℕ} {x : steps.Full} {r : Reply}
-    → RefuseFullEnsures c' s s' e r → SettleEnsures c s c' s' e t d (prelude.Err x) r
+    → RefuseFullEnsures c' s s' e r → SettleEnsures c s c' s' e t d (Err x) r
 settle_ensures_full {c} {s} {c'} {s'} {e} {t} {d} {x} {r} b = record { on = on }
   where
     on : (c₀ s₀ : List ℕ) (f : Step indices) → EngineInvariant c₀ s₀ e
-        → RefinesCached c s₀ s e.state t f (prelude.Err x)
+        → RefinesCached c s₀ s e.state t f (Err x)
         → SetsRegister c' s₀ s' e d f r
     on c₀ s₀ f p w = record {
       invariant = rw b.registers (invariant_rollback p.registers b.restored);
@@ -98,20 +97,20 @@ settle_ensures_full {c} {s} {c'} {s'} {e} {t} {d} {x} {r} b = record { on = on }
 
 pub settle_ensures_edge : {c s : List ℕ} {e : Contents} {d : ℕ} {x : Edge} {t : State} {rs : Registers}
     → rs.all ≡ set e.registers.all d (Some x)
-    → SettleEnsures c s c s e t d (prelude.Ok x)
-    (record { answer = Ok t.count; engine = record { state = t; registers = rs } })
+    → SettleEnsures c s c s e t d (Ok x)
+    (record { answer = Ok (Done t.count); engine = record { state = t; registers = rs } })
 settle_ensures_edge {c} {s} {e} {d} {x} {t} {rs} b = record { on = on }
   where
     on : (c₀ s₀ : List ℕ) (f : Step indices) → EngineInvariant c₀ s₀ e
-        → RefinesCached c s₀ s e.state t f (prelude.Ok x)
-        → SetsRegister c s₀ s e d f (record { answer = Ok t.count; engine = record { state = t; registers = rs } })
+        → RefinesCached c s₀ s e.state t f (Ok x)
+        → SetsRegister c s₀ s e d f (record { answer = Ok (Done t.count); engine = record { state = t; registers = rs } })
     on c₀ s₀ f p n =
         record {
           invariant = invariant_cached p d b n;
           small = omega (arith, n.step.sound.stored.numbered);
           is = settle_edge d p.registers n.step b;
           refused = λ no. absurd (false≢true no);
-          forgets = never_full (Ok t.count) refl;
+          forgets = never_full (Ok (Done t.count)) refl;
         }
 
 -- a step's answer can be settled
@@ -119,8 +118,8 @@ pub cached_settle_requires : {c c' s s' : List ℕ} {st t : State} {rs : List Re
     (m : Result Edge steps.Full)
     → Invariant c s st rs
     → RefinesCached c' s s' st t f m → SettleRequires c' s' st m
-cached_settle_requires (prelude.Ok e) p w = tt
-cached_settle_requires (prelude.Err x) p w = full_rollback p.sound w
+cached_settle_requires (Ok e) p w = tt
+cached_settle_requires (Err x) p w = full_rollback p.sound w
 
 pub step_settle_requires : {c c' s : List ℕ} {st : State} {rs : List Register} (s' : List ℕ) (t : State)
     (f : Step indices) (m : Result Edge steps.Full)
@@ -144,7 +143,7 @@ module _ {c s c' s' : List ℕ} {e : Contents} {d : ℕ} {r : Reply} (p : Engine
 
   -- a constant: nothing is put in
   pub sets_register_constant : {w : ℕ} → w < modulus
-      → SettleEnsures c s c' s' e e.state d (prelude.Ok (record { weight = w; node = 0 })) r
+      → SettleEnsures c s c' s' e e.state d (Ok (record { weight = w; node = 0 })) r
       → SetsRegister c' s s' e d (return (constant indices (to_weight w))) r
   unfolding return
   sets_register_constant {w} small h =

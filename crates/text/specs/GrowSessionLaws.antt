@@ -99,9 +99,9 @@ module _ {d : ℕ} (m : ℕ) where
       let s = (f t.nodes).1 in
       rw (h.is t.nodes, length_grow m s, grow_set t.registers r (some T))
       (cond_grow (fits c (length s)) (
-        answers.Ok (length s),
+        Ok (answers.Done (length s)),
         record { nodes = s; registers = set t.registers r (some T) },
-      ) (answers.No Full, t))
+      ) (Err Full, t))
 
   grow_with_tensor : (o : Option (Tensor d)) (t : Tally d) (F : Tensor d → TallyReply d)
       (G : Tensor (deeper d m) → TallyReply (deeper d m))
@@ -188,19 +188,19 @@ module _ {d : ℕ} (m : ℕ) where
       → answer c (call.At a v) (grow_tally m t) ≡ grow_reply m (answer c (call.At a v) t)
   unfolding answer
   grow_at c a v t =
-      grow_register_lem t a _ _ (λ A. ap (λ (w : Weight). (answers.Value w.number, grow_tally m t)) (grow_value m A v))
+      grow_register_lem t a _ _ (λ A. ap (λ (w : Weight). (Ok (answers.Value w.number), grow_tally m t)) (grow_value m A v))
 
   grow_cmp : (c : Capacity) (a b : ℕ) (t : Tally d)
       → answer c (call.Cmp a b) (grow_tally m t) ≡ grow_reply m (answer c (call.Cmp a b) t)
   unfolding answer
   grow_cmp c a b t =
       grow_register_lem t a _ _ (λ A. grow_register_lem t b _ _
-      (λ B. ap (λ x. (comparison x, grow_tally m t)) (grow_compared m A B)))
+      (λ B. ap (λ x. (Ok (comparison x), grow_tally m t)) (grow_compared m A B)))
 
   grow_on : (c : Capacity) (a : ℕ) (t : Tally d)
       → answer c (call.On a) (grow_tally m t) ≡ grow_reply m (answer c (call.On a) t)
   unfolding answer
-  grow_on c a t = grow_register_lem t a _ _ (λ A. ap (λ x. (answers.Mask x, grow_tally m t)) (grow_support m A))
+  grow_on c a t = grow_register_lem t a _ _ (λ A. ap (λ x. (Ok (answers.Mask x), grow_tally m t)) (grow_support m A))
 
   grow_answer : (c : Capacity) (x : Call) (t : Tally d) → touches d x ≡ true
       → answer c x (grow_tally m t) ≡ grow_reply m (answer c x t)
@@ -234,13 +234,8 @@ module _ {d : ℕ} (m : ℕ) where
       → ((t : Tally d) → g (grow_tally m t) ≡ grow_result m (f t))
       → continue_with line (grow_reply m x) g ≡ grow_result m (continue_with line x f)
   unfolding continue_with
-  grow_continue line (answers.Ok n, t) f g h = h t
-  grow_continue line (answers.No r, t) f g h = refl
-  grow_continue line (answers.Value w, t) f g h = h t
-  grow_continue line (answers.Same, t) f g h = h t
-  grow_continue line (answers.Factor w, t) f g h = h t
-  grow_continue line (answers.Differ, t) f g h = h t
-  grow_continue line (answers.Mask x, t) f g h = h t
+  grow_continue line (Ok a, t) f g h = h t
+  grow_continue line (Err r, t) f g h = refl
 
   grow_perform : (c : Capacity) (xs : List NumberedCall) (t : Tally d) → all_touch d xs ≡ true
       → perform c xs (grow_tally m t) ≡ grow_result m (perform c xs t)
@@ -295,7 +290,7 @@ ruling_grows : {d : ℕ} (m : ℕ) (c : Capacity) (x : PerformResult d)
 unfolding ruling_at_end touches
 ruling_grows m c (refused_at line r) = refl
 ruling_grows m c (ended_with t) =
-    ap (λ (y : TallyReply _). ruling_of_answer y.0) (grow_answer m c (call.Cmp 0 1) t refl)
+    ap (λ (y : TallyReply _). Ok (ruling_of_answer y.0)) (grow_answer m c (call.Cmp 0 1) t refl)
 
 ruling_of_reading_grows : (d m : ℕ) (c : Capacity) (r : Reading) → reading_touches d r ≡ true
     → ruling_of_reading (deeper d m) c r ≡ ruling_of_reading d c r

@@ -12,7 +12,7 @@ use Rattle.text.specs.Answer.{SmallAnswer}
 use Rattle.text.specs.Session.{Capacity, answer, at_most}
 use Rattle.text.specs.Check.{lists, read_text, read_lines, gate_items, GoodText, Reading, fault, checked_of}
 use Rattle.text.specs.Check.{TextRead, CheckedInRange}
-use Rattle.text.specs.Ruling.{SmallRuling, RulingWritten}
+use Rattle.text.specs.Ruling.{SmallRuling, RulingWritten, no_at}
 use Rattle.text.specs.VerdictSession.{ruling_of_answer, perform, ruling_at_end, list_calls, session_calls}
 use Rattle.text.specs.VerdictSession.{ruling_of_reading, ruling_on, verdict_result}
 use Rattle.text.specs.Engine.{Contents, Reply, tally_of, EngineStartEnsures}
@@ -30,7 +30,7 @@ use Rattle.text.specs.declared.ruling.Ruling.{Ruling}
 use Rattle.diagram.specs.declared.gate.Gate.{Gate}
 use Rattle.text.specs.declared.check.Item.{Item}
 use Rattle.text.specs.declared.check.Fault.TheVariants.{Full}
-use Rattle.text.specs.declared.ruling.Ruling.TheVariants.{No}
+use Rattle.text.specs.declared.call.Refusal.{Refusal}
 use Rattle.text.specs.declared.check.Checked.{Checked}
 use Rattle.text.specs.declared.check.FaultAt.{FaultAt}
 use Rattle.text.specs.declared.check.Fault.{Fault}
@@ -41,22 +41,22 @@ use Rattle.text.specs.declared.check.Item.TheVariants as item
 
 -- comparing
 
-pub ruling_as : {a b : Answer} → a ≡ b → ruling_of_answer b ≡ ruling_of_answer a
+pub ruling_as : {a b : Result Answer Refusal} → a ≡ b → ruling_of_answer b ≡ ruling_of_answer a
 ruling_as q = ap ruling_of_answer (sym q)
 
-small_ruling : (a : Answer) → SmallAnswer a → SmallRuling (ruling_of_answer a)
-small_ruling (answers.Ok n) h = tt
-small_ruling (answers.No r) h = tt
-small_ruling (answers.Value w) h = tt
-small_ruling answers.Same h = tt
-small_ruling (answers.Factor f) h = h
-small_ruling answers.Differ h = tt
-small_ruling (answers.Mask m) h = tt
+small_ruling : (a : Result Answer Refusal) → SmallAnswer a → SmallRuling (Ok (ruling_of_answer a))
+small_ruling (Ok (answers.Done n)) h = tt
+small_ruling (Err r) h = tt
+small_ruling (Ok (answers.Value w)) h = tt
+small_ruling (Ok answers.Same) h = tt
+small_ruling (Ok (answers.Factor f)) h = h
+small_ruling (Ok answers.Differ) h = tt
+small_ruling (Ok (answers.Mask m)) h = tt
 
 -- the end of a session
 
 ruling_end : (c : Capacity) (s : List ℕ) (x : ListState) → x.refused ≡ false
-    → ruling_of_answer (answer c (call.Cmp 0 1) (tally_of s x.engine)).0 ≡ ruling_from_state c [] s x
+    → Ok (ruling_of_answer (answer c (call.Cmp 0 1) (tally_of s x.engine)).0) ≡ ruling_from_state c [] s x
 unfolding ruling_from_state ruling_from perform ruling_at_end
 ruling_end c s x q = rw q
 
@@ -69,7 +69,7 @@ module _ {l : GateList} {s c' s' : List ℕ} {a x : ListState} (w : ListEnsures 
       ∙ ap (λ calls. ruling_from_state (at_most (capacity s)) calls s a)
       (append-nil (list_calls l.register l.qubits (a.line + 1) hs))
 
-  pub second_refused : x.refused ≡ true → SecondEnsures l s a (No Full x.line)
+  pub second_refused : x.refused ≡ true → SecondEnsures l s a (no_at Full x.line)
   second_refused q =
       record {
         is = λ hs rest ls. sym (ruling_refused (at_most (capacity s)) [] s' x q) ∙ through hs rest ls;
@@ -78,11 +78,11 @@ module _ {l : GateList} {s c' s' : List ℕ} {a x : ListState} (w : ListEnsures 
 
   pub second_ensures : {y : Reply} {r : Ruling} → length s' ≡ length s → x.refused ≡ false
       → RespondEnsures c' s' s' x.engine (call.Cmp 0 1) y → r ≡ ruling_of_answer y.answer
-      → SecondEnsures l s a r
+      → SecondEnsures l s a (Ok r)
   second_ensures {y} {r} m q u e = record {
-    is = λ hs rest ls. e ∙ ap (λ z. ruling_of_answer z.0) (sym u.is)
+    is = λ hs rest ls. ap Ok e ∙ ap (λ z. Ok (ruling_of_answer z.0)) (sym u.is)
         ∙ (rw m (ruling_end (at_most (capacity s)) s' x q)) ∙ through hs rest ls;
-    small = subst SmallRuling (sym e) (small_ruling y.answer u.small);
+    small = subst (λ z. SmallRuling (Ok z)) (sym e) (small_ruling y.answer u.small);
   }
 
 -- where the run stands, the last line not refused
@@ -133,7 +133,7 @@ module _ {text : Bytes} {n parting count : ℕ} (g : GoodText text n parting cou
     whole = rw (g.text, ← b.is) ((w.performs g.first tail first_lines).is
         (list_calls 1 n (length g.first + 2) g.second))
 
-    pub first_refused : x.refused ≡ true → JudgeEnsures text s (No Full x.line)
+    pub first_refused : x.refused ≡ true → JudgeEnsures text s (no_at Full x.line)
     first_refused q =
         record { is = rw (← b.long) (sym (whole ∙ ruling_refused (at_most (capacity s₁)) _ s' x q)); small = tt }
 
@@ -167,7 +167,7 @@ module _ {text : Bytes} {n parting count : ℕ} (g : GoodText text n parting cou
         are = second_lines;
       }
 
-      pub judge_ensures : {r : Ruling} → length s' ≡ length s₁
+      pub judge_ensures : {r : Result Ruling FaultAt} → length s' ≡ length s₁
           → SecondEnsures second_gates s' (going x) r → JudgeEnsures text s r
       judge_ensures {r} k u =
           let e : x ≡ going x = λ i. record { refused = q i; line = x.line; place = x.place; engine = x.engine } in
@@ -182,12 +182,12 @@ module _ {text : Bytes} {n parting count : ℕ} (g : GoodText text n parting cou
 -- a faulty text
 
 pub judge_faulty : {text : Bytes} {s : List ℕ} {f : FaultAt} {k : Result Checked FaultAt} → TextRead text k → k ≡ Err f
-    → JudgeEnsures text s (No f.fault f.line)
+    → JudgeEnsures text s (Err f)
 unfolding ruling_on ruling_of_reading
 judge_faulty {text} {s} {f} c q = record { is = go (read_text text) refl (sym q ∙ c.checked); small = tt }
   where
     go : (r : Reading) → read_text text ≡ r → Err f ≡ checked_of r
-        → No f.fault f.line ≡ ruling_of_reading indices (at_most (capacity s)) (read_text text)
+        → Err f ≡ ruling_of_reading indices (at_most (capacity s)) (read_text text)
     go (lists n gs hs) e z = absurd (let o : ◌≡◌ {A = ℕ} 0 1 = cc in omega arith)
     go (fault g at) e z = rw e (let o : f ≡ record { fault = g; line = at } = cc in rw o)
 
@@ -214,7 +214,7 @@ unfolding verdict_result
 verdict_no_room {o = o} h =
     record { code = rw (lt-ltb _ _ h); bytes = rw (lt-ltb _ _ h); output = rw (lt-ltb _ _ h) (sym (written_none o 0)) }
 
-pub verdict_ensures : {text : Bytes} {s : List ℕ} {o o' : Bytes} {r : Ruling} {m : ℕ} → verdict_room ≤ length o
+pub verdict_ensures : {text : Bytes} {s : List ℕ} {o o' : Bytes} {r : Result Ruling FaultAt} {m : ℕ} → verdict_room ≤ length o
     → JudgeEnsures text s r → RulingWritten o r o' m
     → VerdictEnsures text s o o' (record { code = 0; bytes = m })
 unfolding verdict_result

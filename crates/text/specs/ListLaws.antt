@@ -19,7 +19,7 @@ use Rattle.text.specs.CheckListsLaws.{gate_next}
 use Rattle.diagram.specs.declared.gate.Gate.{Gate}
 use Rattle.text.specs.declared.call.Call.{Call}
 use Rattle.text.specs.declared.check.Item.{Item}
-use Rattle.text.specs.declared.ruling.Ruling.TheVariants.{No}
+use Rattle.text.specs.Ruling.{no_at}
 use Rattle.text.specs.declared.check.Fault.TheVariants.{Full}
 use Rattle.text.specs.declared.check.Item.TheVariants as item
 use Rattle.text.specs.declared.call.Call.TheVariants as call
@@ -109,7 +109,7 @@ items_none rest = refl
 
 -- nothing that follows a refusal counts
 pub ruling_refused : (c : Capacity) (more : List NumberedCall) (s : List ℕ) (x : ListState) → x.refused ≡ true
-    → ruling_from_state c more s x ≡ No Full x.line
+    → ruling_from_state c more s x ≡ no_at Full x.line
 unfolding ruling_from ruling_from_state
 ruling_refused c more s x q = rw q
 

@@ -1,5 +1,5 @@
 -- Numbers (document 01, "Session calls"), and how the code reads them.
-use Rattle.std.specs.Prelude.{Bool, ◌&&◌, cond, false, not, [], ◌∷◌, ◌≡◌, ℕ, ◌+◌, ◌*◌, ◌-◌, ◌^◌, ◌≤◌, ◌<◌, leb, eqb}
+use Rattle.std.specs.Prelude.{Bool, ◌&&◌, cond, false, not, [], ◌∷◌, ◌≡◌, ℕ, ◌+◌, ◌*◌, ◌-◌, ◌^◌, ◌<◌, leb, eqb}
 use Rattle.std.specs.Prelude.{length, drop, Option, Some, None}
 use Rattle.text.specs.Text.{Bytes}
 

@@ -1,5 +1,5 @@
 -- Laws of Number: digit by digit.
-use Rattle.std.specs.Prelude.{◌≡◌, refl, false, true, ◌&&◌, [], ◌∷◌, ℕ, ◌+◌, ◌*◌, ◌-◌, ◌≤◌, ◌<◌, length, get_or, drop}
+use Rattle.std.specs.Prelude.{◌≡◌, refl, false, true, ◌&&◌, ℕ, ◌+◌, ◌*◌, ◌-◌, ◌≤◌, ◌<◌, length, get_or, drop}
 use Rattle.std.specs.Prelude.{leb, Some, None}
 use Rattle.std.specs.Char.{is_ascii_digit}
 use Rattle.std.proofs.Common.{sym, ◌∙◌, add-one, arith, pow-suc, drop_of_length-le, drop-cons, le-leb, leb-true}

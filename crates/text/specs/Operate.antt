@@ -1,5 +1,5 @@
 -- The calls that set a register, once their operands are read.
-use Rattle.std.specs.Prelude.{◌≡◌, Bool, cond, List, ℕ}
+use Rattle.std.specs.Prelude.{◌≡◌, Bool, cond, List, ℕ, Result}
 use Rattle.diagram.specs.Tensor.{indices}
 use Rattle.diagram.specs.Tally.{Step}
 use Rattle.diagram.specs.Node.{capacity}
@@ -8,6 +8,7 @@ use Rattle.text.specs.Answer.{SmallAnswer}
 use Rattle.text.specs.Session.{at_most, refuse, settle}
 use Rattle.text.specs.Engine.{Contents, contents, Reply, reply, tally_of, RefusedUnchanged, FullForgets}
 use Rattle.text.specs.Engine.{EngineInvariant}
+use Rattle.text.specs.declared.call.Refusal.{Refusal}
 use Rattle.text.specs.declared.call.Refusal.TheVariants.{Depends}
 use Rattle.text.specs.declared.engine.Engine.{Engine}
 use Rattle.text.specs.declared.answer.Answer.{Answer}
@@ -24,6 +25,6 @@ pub record SetsUnless (c' s s' : List ℕ) (e : Contents) (d : ℕ) (test : Bool
   pub forgets : FullForgets c' r
 
 -- the same, of an engine e before the call and e' after it
-abbrev pub SetsOr : Engine → Engine → ℕ → Bool → Step indices → Answer → Type 0
+abbrev pub SetsOr : Engine → Engine → ℕ → Bool → Step indices → Result Answer Refusal → Type 0
 SetsOr e e' d test f a = SetsUnless e'.diagram.now.cache.now e.diagram.now.store.now e'.diagram.now.store.now (contents e) d test f
     (reply a e')

@@ -1,5 +1,5 @@
 -- Laws of Operate: a call that sets a register unless it is refused by 7 answers as the tally's.
-use Rattle.std.specs.Prelude.{◌≡◌, List, Bool, true, false, ℕ}
+use Rattle.std.specs.Prelude.{◌≡◌, List, Bool, true, false, ℕ, Err}
 use Rattle.std.proofs.Math.Path.{refl}
 use Rattle.std.proofs.Common.{arith}
 use Rattle.diagram.specs.Tensor.{indices}
@@ -8,12 +8,11 @@ use Rattle.text.specs.Session.{refuse}
 use Rattle.text.specs.Engine.{Contents, Reply, tally_of, SetsRegister, EngineInvariant}
 use Rattle.text.specs.Operate.{SetsUnless}
 use Rattle.text.specs.RespondLaws.{refused_forgets}
-use Rattle.text.specs.declared.answer.Answer.TheVariants.{No}
 use Rattle.text.specs.declared.call.Refusal.TheVariants.{Depends}
 
 module _ {s : List ℕ} {e : Contents} {d : ℕ} {b test : Bool} {f : Step indices} (told : b ≡ test) where
   pub unless_refused : {c : List ℕ} → EngineInvariant c s e → b ≡ true
-      → SetsUnless c s s e d test f (record { answer = No Depends; engine = e })
+      → SetsUnless c s s e d test f (record { answer = Err Depends; engine = e })
   unfolding refuse
   unless_refused p q = record {
     invariant = p;

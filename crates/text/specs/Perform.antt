@@ -1,16 +1,14 @@
 -- The calls of a verdict's session until one is refused, as the code runs them: one, or a gate's as one step.
-use Rattle.std.specs.Prelude.{cond, List, ◌++◌, ◌≡◌, ℕ, Bool, false, Result, ⊤}
-use Rattle.std.specs.Result.{is_err}
+use Rattle.std.specs.Prelude.{cond, List, ◌++◌, ◌≡◌, ℕ, Bool, false, Result, is_err, ⊤}
 use Rattle.diagram.specs.Node.{capacity}
 use Rattle.text.specs.Session.{Capacity, at_most}
 use Rattle.text.specs.VerdictSession.{NumberedCall, perform, ruling_at_end, at_line}
-use Rattle.text.specs.Answer.{is_no}
+use Rattle.text.specs.Ruling.{no_at}
 use Rattle.text.specs.Engine.{Contents, contents, tally_of, EngineInvariant}
 use Rattle.text.specs.Apply.{drop_collect}
-use Rattle.text.specs.declared.answer.Answer.{Answer}
 use Rattle.text.specs.declared.call.Refusal.{Refusal}
 use Rattle.text.specs.declared.ruling.Ruling.{Ruling}
-use Rattle.text.specs.declared.ruling.Ruling.TheVariants.{No}
+use Rattle.text.specs.declared.check.FaultAt.{FaultAt}
 use Rattle.text.specs.declared.check.Fault.TheVariants.{Full}
 use Rattle.text.specs.declared.call.Call.{Call}
 use Rattle.text.specs.declared.engine.Engine.{Engine}
@@ -21,8 +19,8 @@ pub record PerformState : Type 0 where
   pub engine : Contents
 
 -- the final ruling from here: the calls before were refused at `line`, or others follow
-unfoldable pub ruling_from : Capacity → ℕ → List NumberedCall → List ℕ → PerformState → Ruling
-ruling_from c line more s r = cond r.refused (No Full line) (ruling_at_end c (perform c more (tally_of s r.engine)))
+unfoldable pub ruling_from : Capacity → ℕ → List NumberedCall → List ℕ → PerformState → Result Ruling FaultAt
+ruling_from c line more s r = cond r.refused (no_at Full line) (ruling_at_end c (perform c more (tally_of s r.engine)))
 
 -- the calls xs were run, whatever their line and whatever follows
 pub record PerformsCalls (s c' s' : List ℕ) (a : PerformState) (xs : List Call) (r : PerformState) : Type 0 where
@@ -36,10 +34,6 @@ pub record PerformsCalls (s c' s' : List ℕ) (a : PerformState) (xs : List Call
 pub record DropCollectEnsures (s c' s' : List ℕ) (e r : Contents) : Type 0 where
   pub invariant : EngineInvariant c' s' r
   pub is : tally_of s' r ≡ drop_collect (tally_of s e)
-
--- the answer is a refusal exactly where there is an error
-abbrev pub Accepts : Answer → Result ⊤ Refusal → Type 0
-Accepts a r = is_err r ≡ is_no a
 
 -- the same, of an engine e before the calls and e' after them, none of the calls before them refused
 

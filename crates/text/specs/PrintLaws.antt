@@ -1,9 +1,9 @@
 -- Laws of Print: bytes written behind others, and the digits of a number.
 use Rattle.std.specs.Prelude.{◌≡◌, refl, [], ◌∷◌, ◌++◌, cond, Bool, true, false, ℕ, suc, ◌+◌, ◌-◌, ◌≤◌, ◌<◌, zero}
 use Rattle.std.specs.Prelude.{◌/◌, ◌%◌}
-use Rattle.std.specs.Prelude.{◌^◌, length, set, take, get_or, drop, ltb}
-use Rattle.std.proofs.Common.{ap, sym, ◌∙◌, append-nil, arith, add-zero, pow-suc, div-lt_iff_lt-mul, add-one}
-use Rattle.std.proofs.Common.{take-append-drop, length-append, length-set, take-suc, length-take-le, take_all, lt-ltb}
+use Rattle.std.specs.Prelude.{◌^◌, length, set, take, drop, ltb}
+use Rattle.std.proofs.Common.{ap, sym, ◌∙◌, append-nil, arith, add-zero, pow-suc, div-lt_iff_lt-mul}
+use Rattle.std.proofs.Common.{take-append-drop, length-append, length-take-le, lt-ltb}
 use Rattle.std.proofs.Common.{le-ltb, drop-drop, append_assoc}
 use borrow.Rule.Slice.PartMut.{put_mid}
 use Rattle.std.proofs.lemmas.List.Edits.{sets, sets-eq}

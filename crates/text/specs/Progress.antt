@@ -1,11 +1,10 @@
 -- Where a session stands, line after line.
-use Rattle.std.specs.Prelude.{List, [], ◌≡◌, true, ℕ, ◌+◌, ◌≤◌, ◌<◌, take, length, drop}
+use Rattle.std.specs.Prelude.{List, [], ◌≡◌, IsErr, ℕ, ◌+◌, ◌≤◌, ◌<◌, take, length, drop}
 use Rattle.diagram.specs.Tensor.{indices}
 use Rattle.diagram.specs.Node.{capacity}
 use Rattle.text.specs.Text.{Bytes, LF, lines}
 use Rattle.text.specs.Limits.{answer_room}
 use Rattle.text.specs.Line.{read_line}
-use Rattle.text.specs.Answer.{is_no}
 use Rattle.text.specs.Session.{TallyRun, Tally, at_most, with_answer, answer_read, run}
 use Rattle.text.specs.Agrees.{Unchanged, AgreesThroughout, Passes, before_stop}
 use Rattle.text.specs.Split.{part, Ends}
@@ -62,7 +61,7 @@ pub record AnswerLineEnsures (line : Bytes) (next : ℕ) (s c' s' : List ℕ) (o
   pub behind : p.bytes ≤ r.bytes
   pub bytes : r.bytes ≤ length o
   pub rest : drop r.bytes o' ≡ drop r.bytes o
-  pub refused : is_no (answer_read (at_most (capacity s)) (read_line line) (tally_of s p.engine)).0 ≡ true
+  pub refused : IsErr (answer_read (at_most (capacity s)) (read_line line) (tally_of s p.engine)).0
       → Unchanged s s' p.engine.state.count r.engine.state.count p.engine.registers.all
       r.engine.registers.all
 

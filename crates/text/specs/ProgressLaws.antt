@@ -1,7 +1,7 @@
 -- Laws of Progress: one line, the loop, the whole session.
 use Rattle.std.proofs.Math.Path.{ap, refl, subst}
 use Rattle.std.proofs.Common.{◌∙◌, sym, arith, add-one, take-append-drop, length-drop, take-take, take_all, le-leb}
-use Rattle.std.specs.Prelude.{◌≡◌, ◌≢◌, cond, ℕ, ◌+◌, ◌-◌, ◌≤◌, ◌<◌, length, take, drop, get_or, leb, Result}
+use Rattle.std.specs.Prelude.{◌≡◌, ◌≢◌, cond, ℕ, ◌+◌, ◌-◌, ◌≤◌, ◌<◌, length, take, drop, get_or, leb, Result, is_err}
 use mathlib.Core.List.{List, [], ◌∷◌}
 use Rattle.std.proofs.Math.Seq.{length-take-le}
 use Rattle.std.proofs.lemmas.Bool.{lt-leb}
@@ -12,7 +12,7 @@ use Rattle.text.specs.Text.{Bytes, lines, LF}
 use Rattle.text.specs.Limits.{answer_room}
 use Rattle.text.specs.Line.{LineRead, read_line}
 use Rattle.text.specs.Print.{written}
-use Rattle.text.specs.Answer.{printed, is_no, AnswerWritten}
+use Rattle.text.specs.Answer.{printed, AnswerWritten}
 use Rattle.text.specs.Session.{with_answer, node_count, at_most, TallyRun, run, answer_read, empty_run}
 use Rattle.text.specs.Session as tally
 use Rattle.text.specs.Agrees.{line, Agrees, Passes, before_stop, start, OneLine, AgreesThroughout}
@@ -59,7 +59,7 @@ answer_line_ensures {line} {next} {s} {c'} {s'} {o} {o'} {p} {x} {y} {n} l r w h
       behind = omega (arith, w.after);
       bytes = omega (arith, w.after);
       rest = rw (w.exact, w.after) (written_drop o p.bytes (printed y.answer) room);
-      refused = λ no. r.refused (sym (ap (λ z. is_no z.0) r.is) ∙ rw l.call no);
+      refused = λ no. r.refused (sym (ap (λ z. is_err z.0) r.is) ∙ rw l.call no);
     }
 
 pub resume_line_less : {text : Bytes} {s c' s' : List ℕ} {o o' : Bytes} {p r : RunState} → p.place < length text

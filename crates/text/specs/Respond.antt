@@ -1,15 +1,23 @@
 -- What a call does and answers: as the tally's.
-use Rattle.std.specs.Prelude.{List, ◌≡◌, ℕ, Result}
+use Rattle.std.specs.Prelude.{List, ◌≡◌, ℕ, Result, Some, MatchResult}
 use Rattle.diagram.specs.Node.{capacity}
+use Rattle.diagram.specs.Registers.{Register, GetEnsures, empty_register}
 use Rattle.text.specs.Answer.{SmallAnswer}
 use Rattle.text.specs.Session.{at_most, answer, answer_read}
 use Rattle.text.specs.Engine.{Contents, contents, Reply, reply, Forgotten, FullForgets, tally_of, RefusedUnchanged}
 use Rattle.text.specs.Engine.{EngineInvariant}
 use Rattle.text.specs.declared.call.Call.{Call}
 use Rattle.text.specs.declared.call.Refusal.{Refusal}
+use Rattle.text.specs.declared.call.Refusal.TheVariants.{Empty}
+use Rattle.diagram.specs.declared.node.Edge.{Edge}
 use Rattle.text.specs.declared.answer.Answer.{Answer}
 use Rattle.text.specs.declared.engine.Engine.{Engine}
 use Rattle.text.specs.declared.call.Call.TheVariants as call
+
+-- the edge that register a holds; "3 (a .. empty)"
+abbrev pub OperandRead : List Register → ℕ → Result Edge Refusal → Type 0
+OperandRead rs a r =
+    MatchResult r (λ x. GetEnsures rs a (Some x)) (λ why. (why ≡ Empty) × GetEnsures rs a empty_register)
 
 -- after a collection nothing remembered is used, and after another call where it was refused as full
 abbrev pub Forgets : Call → List ℕ → Reply → Type 0
@@ -42,10 +50,10 @@ pub record ReplyEnsures (c' s s' : List ℕ) (e : Contents) (x : Result Call Ref
   pub refused : RefusedUnchanged s s' e r
 
 -- the same, of an engine e before the call and e' after it
-abbrev pub Responds : Engine → Engine → Call → Answer → Type 0
+abbrev pub Responds : Engine → Engine → Call → Result Answer Refusal → Type 0
 Responds e e' x a = RespondEnsures e'.diagram.now.cache.now e.diagram.now.store.now e'.diagram.now.store.now (contents e) x
     (reply a e')
 
-abbrev pub Replies : Engine → Engine → Result Call Refusal → Answer → Type 0
+abbrev pub Replies : Engine → Engine → Result Call Refusal → Result Answer Refusal → Type 0
 Replies e e' x a = ReplyEnsures e'.diagram.now.cache.now e.diagram.now.store.now e'.diagram.now.store.now (contents e) x
     (reply a e')

@@ -1,12 +1,13 @@
 -- Laws of Respond: the operands, and the refusals in order.
-use Rattle.std.specs.Prelude.{◌≡◌, ◌≢◌, Bool, false, cond, ◌-◌, ℕ, ◌<◌, set, Result, Some}
-use Rattle.std.specs.Prelude.{Ok as Read, Err as Refused}
+use Rattle.std.specs.Prelude.{◌≡◌, ◌≢◌, Bool, cond, ◌-◌, ℕ, ◌<◌, set, Result, Some, None, ok_or}
+use Rattle.std.specs.Prelude.{Ok, Err}
 use Rattle.std.proofs.Common.{subst, ◌∙◌, arith}
 use Rattle.std.proofs.Math.Path.{sym, ap, refl}
 use mathlib.Core.List.{List}
 use Rattle.std.proofs.lemmas.Bool.{false≢true}
 use Rattle.diagram.specs.InvariantLaws.{holds_read, read_valid, invariant_clear, invariant_collect}
 use Rattle.diagram.specs.Tensor.{Tensor, indices, bits, constant, depends, value, masks}
+use Rattle.diagram.specs.Meaning.{Valid}
 use Rattle.diagram.specs.Store.{set_of, tensor_of, Refines}
 use Rattle.diagram.specs.StoreLaws.{set_length}
 use Rattle.diagram.specs.Registers.{Register, GetEnsures, RegistersValid, empty_register, holds}
@@ -22,18 +23,18 @@ use Rattle.diagram.specs.CompareLaws.{compared_means}
 use Rattle.diagram.specs.Collect.{CollectEnsures}
 use Rattle.diagram.specs.Support.{support_mask}
 use Rattle.text.specs.Call.{InRange, Ranged, refusal_number}
-use Rattle.text.specs.Answer.{is_no, SmallAnswer}
+use Rattle.text.specs.Answer.{SmallAnswer}
 use Rattle.text.specs.Session.{TallyReply, refuse, with_tensor, with_register, at_most, answer, settle, comparison}
 use Rattle.text.specs.Session.{node_count, accept}
 use Rattle.text.specs.Engine.{Contents, Reply, EngineInvariant, tally_of, FullForgets, SetsRegister, SettleEnsures}
 use Rattle.text.specs.Operate.{SetsUnless}
-use Rattle.text.specs.Respond.{RespondEnsures, ReplyEnsures, Forgets}
+use Rattle.text.specs.Respond.{OperandRead, RespondEnsures, ReplyEnsures, Forgets}
 use Rattle.text.specs.EngineLaws.{sets_register_constant, sets_register_step, never_full}
 use Rattle.text.specs.declared.call.Call.{Call}
 use Rattle.diagram.specs.declared.node.Edge.{Edge}
 use Rattle.text.specs.declared.call.Refusal.TheVariants.{Empty, Depends}
 use Rattle.text.specs.declared.answer.Answer.{Answer}
-use Rattle.text.specs.declared.answer.Answer.TheVariants.{Ok, No, Value, Same, Factor, Differ, Mask}
+use Rattle.text.specs.declared.answer.Answer.TheVariants.{Done, Value, Factor, Mask}
 use Rattle.text.specs.declared.call.Refusal.{Refusal}
 use Rattle.diagram.specs.declared.gate.Gate.{Gate}
 use Rattle.diagram.specs.declared.compare.Comparison.{Comparison}
@@ -52,44 +53,48 @@ pub responds_as : {c' s s' : List ℕ} {e : Contents} {x y : Call} {r : Reply} �
     → RespondEnsures c' s s' e y r
 responds_as {c'} {s} {s'} {e} {r = r} q h = subst (λ z. RespondEnsures c' s s' e z r) (sym q) h
 
-pub reply_call : {c' s s' : List ℕ} {e : Contents} {x : Result Call Refusal} {y : Call} {r : Reply} → x ≡ Read y
+pub reply_call : {c' s s' : List ℕ} {e : Contents} {x : Result Call Refusal} {y : Call} {r : Reply} → x ≡ Ok y
     → RespondEnsures c' s s' e y r
     → ReplyEnsures c' s s' e x r
 reply_call q h = record { invariant = h.invariant; small = h.small; is = rw q h.is; refused = h.refused }
 
-pub read_ranged : {x : Result Call Refusal} {y : Call} → Ranged x → x ≡ Read y → InRange y
+pub read_ranged : {x : Result Call Refusal} {y : Call} → Ranged x → x ≡ Ok y → InRange y
 read_ranged h q = rw q at h
 
 -- an operand
 
-module _ (s : List ℕ) (e : Contents) {a : ℕ} {h : Register} (r : GetEnsures e.registers.all a h)
-    (f : Tensor indices → TallyReply indices) where
-  pub operand : {x : Edge} → h ≡ Some x → with_register (tally_of s e) a f ≡ f (tensor_of s e.state x)
-  unfolding with_register with_tensor tally_of tensor_of holds
-  operand q = rw (holds_read (set_of s e.state) r, q)
+pub operand_read : {rs : List Register} {a : ℕ} {h : Register} {r : Result Edge Refusal} → GetEnsures rs a h
+    → r ≡ ok_or h Empty → OperandRead rs a r
+operand_read {rs} {a} {h} {r} g q = go h g q
+  where
+    go : (h : Register) → GetEnsures rs a h → r ≡ ok_or h Empty → OperandRead rs a r
+    go None g q = rw q (refl, g)
+    go (Some x) g q = rw q g
 
-  pub operand_empty : h ≡ empty_register → with_register (tally_of s e) a f ≡ refuse Empty (tally_of s e)
+module _ (s : List ℕ) (e : Contents) {a : ℕ} (f : Tensor indices → TallyReply indices) where
+  pub operand : {x : Edge} → GetEnsures e.registers.all a (Some x)
+      → with_register (tally_of s e) a f ≡ f (tensor_of s e.state x)
+  unfolding with_register with_tensor tally_of tensor_of holds
+  operand r = rw (holds_read (set_of s e.state) r)
+
+  pub operand_empty : GetEnsures e.registers.all a empty_register
+      → with_register (tally_of s e) a f ≡ refuse Empty (tally_of s e)
   unfolding with_register with_tensor tally_of holds
-  operand_empty q = rw (holds_read (set_of s e.state) r, q)
+  operand_empty r = rw (holds_read (set_of s e.state) r)
 
 -- refusals that have begun nothing
 
-abbrev refusal_of_answer : Answer → ℕ
-refusal_of_answer (Ok n) = 0
-refusal_of_answer (No r) = refusal_number r
-refusal_of_answer (Value w) = 0
-refusal_of_answer Same = 0
-refusal_of_answer (Factor f) = 0
-refusal_of_answer Differ = 0
-refusal_of_answer (Mask m) = 0
+abbrev refusal_of_answer : Result Answer Refusal → ℕ
+refusal_of_answer (Ok a) = 0
+refusal_of_answer (Err r) = refusal_number r
 
 -- what a refusal leaves that has begun nothing
 abbrev refused_by : Refusal → Contents → Reply
-refused_by why e = record { answer = No why; engine = e }
+refused_by why e = record { answer = Err why; engine = e }
 
 -- a refusal with another number is not as full
 pub refused_forgets : {c : List ℕ} (e : Contents) (why : Refusal) → refusal_number why ≢ 8
-    → FullForgets c (record { answer = No why; engine = e })
+    → FullForgets c (record { answer = Err why; engine = e })
 refused_forgets e why n q = absurd (n (ap refusal_of_answer q))
 
 module _ {c s : List ℕ} {e : Contents} (p : EngineInvariant c s e) where
@@ -112,8 +117,8 @@ module _ {c s : List ℕ} {e : Contents} (p : EngineInvariant c s e) where
   refused_empty forgets q = respond_refused Empty (forgets (refused_forgets e Empty (λ z. omega arith))) q
 
   -- the reader refused
-  pub reply_refused : {x : Result Call Refusal} {why : Refusal} → x ≡ Refused why
-      → ReplyEnsures c s s e x (record { answer = No why; engine = e })
+  pub reply_refused : {x : Result Call Refusal} {why : Refusal} → x ≡ Err why
+      → ReplyEnsures c s s e x (record { answer = Err why; engine = e })
   unfolding refuse
   reply_refused q = record {
     invariant = p;
@@ -122,55 +127,55 @@ module _ {c s : List ℕ} {e : Contents} (p : EngineInvariant c s e) where
     refused = λ no. record { nodes = refl; registers = refl };
   }
 
-  module _ {a : ℕ} {h : Register} (g : GetEnsures e.registers.all a h) (q : h ≡ empty_register) where
-    pub empty_add : {d b : ℕ} → RespondEnsures c s s e (call.Add d a b) (record { answer = No Empty; engine = e })
+  module _ {a : ℕ} (g : GetEnsures e.registers.all a empty_register) where
+    pub empty_add : {d b : ℕ} → RespondEnsures c s s e (call.Add d a b) (record { answer = Err Empty; engine = e })
     unfolding answer
-    empty_add = refused_empty (λ k. k) (operand_empty s e g _ q)
+    empty_add = refused_empty (λ k. k) (operand_empty s e _ g)
 
     pub empty_cont : {d b m : ℕ}
-        → RespondEnsures c s s e (call.Cont d a b m) (record { answer = No Empty; engine = e })
+        → RespondEnsures c s s e (call.Cont d a b m) (record { answer = Err Empty; engine = e })
     unfolding answer
-    empty_cont = refused_empty (λ k. k) (operand_empty s e g _ q)
+    empty_cont = refused_empty (λ k. k) (operand_empty s e _ g)
 
-    pub empty_low : {d k : ℕ} → RespondEnsures c s s e (call.Low d a k) (record { answer = No Empty; engine = e })
+    pub empty_low : {d k : ℕ} → RespondEnsures c s s e (call.Low d a k) (record { answer = Err Empty; engine = e })
     unfolding answer
-    empty_low = refused_empty (λ k. k) (operand_empty s e g _ q)
+    empty_low = refused_empty (λ k. k) (operand_empty s e _ g)
 
-    pub empty_lows : {d m : ℕ} → RespondEnsures c s s e (call.Lows d a m) (record { answer = No Empty; engine = e })
+    pub empty_lows : {d m : ℕ} → RespondEnsures c s s e (call.Lows d a m) (record { answer = Err Empty; engine = e })
     unfolding answer
-    empty_lows = refused_empty (λ k. k) (operand_empty s e g _ q)
+    empty_lows = refused_empty (λ k. k) (operand_empty s e _ g)
 
-    pub empty_drop : RespondEnsures c s s e (call.Drop a) (record { answer = No Empty; engine = e })
+    pub empty_drop : RespondEnsures c s s e (call.Drop a) (record { answer = Err Empty; engine = e })
     unfolding answer
-    empty_drop = refused_empty (λ k. k) (operand_empty s e g _ q)
+    empty_drop = refused_empty (λ k. k) (operand_empty s e _ g)
 
-    pub empty_at : {v : ℕ} → RespondEnsures c s s e (call.At a v) (record { answer = No Empty; engine = e })
+    pub empty_at : {v : ℕ} → RespondEnsures c s s e (call.At a v) (record { answer = Err Empty; engine = e })
     unfolding answer
-    empty_at = refused_empty (λ k. k) (operand_empty s e g _ q)
+    empty_at = refused_empty (λ k. k) (operand_empty s e _ g)
 
-    pub empty_on : RespondEnsures c s s e (call.On a) (record { answer = No Empty; engine = e })
+    pub empty_on : RespondEnsures c s s e (call.On a) (record { answer = Err Empty; engine = e })
     unfolding answer
-    empty_on = refused_empty (λ k. k) (operand_empty s e g _ q)
+    empty_on = refused_empty (λ k. k) (operand_empty s e _ g)
 
-    pub empty_cmp : {b : ℕ} → RespondEnsures c s s e (call.Cmp a b) (record { answer = No Empty; engine = e })
+    pub empty_cmp : {b : ℕ} → RespondEnsures c s s e (call.Cmp a b) (record { answer = Err Empty; engine = e })
     unfolding answer
-    empty_cmp = refused_empty (λ k. k) (operand_empty s e g _ q)
+    empty_cmp = refused_empty (λ k. k) (operand_empty s e _ g)
 
   -- the second operand
-  module _ {a b : ℕ} {h g : Register} {x : Edge} (i : GetEnsures e.registers.all a h) (o : h ≡ Some x)
-      (j : GetEnsures e.registers.all b g) (q : g ≡ empty_register) where
-    pub empty_add_2 : {d : ℕ} → RespondEnsures c s s e (call.Add d a b) (record { answer = No Empty; engine = e })
+  module _ {a b : ℕ} {x : Edge} (i : GetEnsures e.registers.all a (Some x))
+      (j : GetEnsures e.registers.all b empty_register) where
+    pub empty_add_2 : {d : ℕ} → RespondEnsures c s s e (call.Add d a b) (record { answer = Err Empty; engine = e })
     unfolding answer
-    empty_add_2 = refused_empty (λ k. k) (operand s e i _ o ∙ operand_empty s e j _ q)
+    empty_add_2 = refused_empty (λ k. k) (operand s e _ i ∙ operand_empty s e _ j)
 
     pub empty_cont_2 : {d m : ℕ}
-        → RespondEnsures c s s e (call.Cont d a b m) (record { answer = No Empty; engine = e })
+        → RespondEnsures c s s e (call.Cont d a b m) (record { answer = Err Empty; engine = e })
     unfolding answer
-    empty_cont_2 = refused_empty (λ k. k) (operand s e i _ o ∙ operand_empty s e j _ q)
+    empty_cont_2 = refused_empty (λ k. k) (operand s e _ i ∙ operand_empty s e _ j)
 
-    pub empty_cmp_2 : RespondEnsures c s s e (call.Cmp a b) (record { answer = No Empty; engine = e })
+    pub empty_cmp_2 : RespondEnsures c s s e (call.Cmp a b) (record { answer = Err Empty; engine = e })
     unfolding answer
-    empty_cmp_2 = refused_empty (λ k. k) (operand s e i _ o ∙ operand_empty s e j _ q)
+    empty_cmp_2 = refused_empty (λ k. k) (operand s e _ i ∙ operand_empty s e _ j)
 
 -- the calls that set a register
 
@@ -190,7 +195,7 @@ module _ {c' s s' : List ℕ} {e : Contents} {d : ℕ} {r : Reply} where
 
   module _ {c : List ℕ} (p : EngineInvariant c s e) where
     pub responds_put : {w : ℕ} → w < modulus
-        → SettleEnsures c s c' s' e e.state d (Read (record { weight = w; node = 0 })) r
+        → SettleEnsures c s c' s' e e.state d (Ok (record { weight = w; node = 0 })) r
         → RespondEnsures c' s s' e (call.Put d w) r
     unfolding answer return tally_of
     responds_put {w} small h =
@@ -212,24 +217,23 @@ module _ {c' s s' : List ℕ} {e : Contents} {d : ℕ} {r : Reply} where
     responds_unit {n = n} k w h = sets_register_as {f = build (unit_tensor indices n)} (λ z. z) refl
         (sets_register_step p _ k w h)
 
-  module _ {a b : ℕ} {h g : Register} {x y : Edge} (i : GetEnsures e.registers.all a h)
-      (o : h ≡ Some x)
-      (j : GetEnsures e.registers.all b g) (q : g ≡ Some y) where
+  module _ {a b : ℕ} {x y : Edge} (i : GetEnsures e.registers.all a (Some x))
+      (j : GetEnsures e.registers.all b (Some y)) where
     pub responds_add : SetsRegister c' s s' e d (sum (tensor_of s e.state x) (tensor_of s e.state y)) r
         → RespondEnsures c' s s' e (call.Add d a b) r
     unfolding answer tally_of
-    responds_add w = sets_register_as (λ z. z) (operand s e i _ o ∙ operand s e j _ q) w
+    responds_add w = sets_register_as (λ z. z) (operand s e _ i ∙ operand s e _ j) w
 
     pub responds_cont : {m : ℕ}
         → SetsRegister c' s s' e d (cont (tensor_of s e.state x) (tensor_of s e.state y) (bits m)) r
         → RespondEnsures c' s s' e (call.Cont d a b m) r
     unfolding answer tally_of
-    responds_cont w = sets_register_as (λ z. z) (operand s e i _ o ∙ operand s e j _ q) w
+    responds_cont w = sets_register_as (λ z. z) (operand s e _ i ∙ operand s e _ j) w
 
 -- the calls that set it unless they are refused by 7
 
-module _ {c' s s' : List ℕ} {e : Contents} {d a : ℕ} {h : Register} {x : Edge} {r : Reply}
-    (i : GetEnsures e.registers.all a h) (o : h ≡ Some x) where
+module _ {c' s s' : List ℕ} {e : Contents} {d a : ℕ} {x : Edge} {r : Reply}
+    (i : GetEnsures e.registers.all a (Some x)) where
   sets_unless_as : {test : Bool} {f : Step indices} {y : Call} → (FullForgets c' r → Forgets y c' r)
       → answer (at_most (capacity s)) y (tally_of s e) ≡ cond test (refuse Depends (tally_of s e))
       (settle (at_most (capacity s)) d (f (set_of s e.state)) (tally_of s e))
@@ -247,36 +251,36 @@ module _ {c' s s' : List ℕ} {e : Contents} {d a : ℕ} {h : Register} {x : Edg
       → SetsUnless c' s s' e d (depends (k - 1) (tensor_of s e.state x)) (low k (tensor_of s e.state x)) r
       → RespondEnsures c' s s' e (call.Low d a k) r
   unfolding answer tally_of
-  responds_low w = sets_unless_as (λ z. z) (operand s e i _ o) w
+  responds_low w = sets_unless_as (λ z. z) (operand s e _ i) w
 
   pub responds_lows : {m : ℕ}
       → SetsUnless c' s s' e d (clash (bits m) (tensor_of s e.state x)) (lows (bits m) (tensor_of s e.state x)) r
       → RespondEnsures c' s s' e (call.Lows d a m) r
   unfolding answer tally_of
-  responds_lows w = sets_unless_as (λ z. z) (operand s e i _ o) w
+  responds_lows w = sets_unless_as (λ z. z) (operand s e _ i) w
 
 -- the others
 
 pub comparison_factor : {f : ℕ} {c : Comparison} → c ≡ compare.Factor f → Factor f ≡ comparison c
 comparison_factor q = ap comparison (sym q)
 
--- weights of valid edges are small
-pub read_small : {m : ℕ} {rs : List Register} {i : ℕ} {x : Edge} {h : Register} → RegistersValid m rs
-    → GetEnsures rs i h → h ≡ Some x → x.weight < modulus
-read_small {h = h} g r q = (read_valid h g r q).small
+-- an operand is an edge of the store's nodes, and its weight is small
 
-comparison_accepted : (r : Comparison) → is_no (comparison r) ≡ false
-comparison_accepted compare.Same = refl
-comparison_accepted (compare.Factor f) = refl
-comparison_accepted compare.Differ = refl
+pub operand_valid : {m : ℕ} {rs : List Register} {i : ℕ} {x : Edge} → RegistersValid m rs
+    → GetEnsures rs i (Some x) → Valid m x
+operand_valid g r = read_valid _ g r refl
 
-small_comparison : (A B : Tensor indices) (r : Comparison) → ComparisonMeans A B r → SmallAnswer (comparison r)
+pub operand_small : {m : ℕ} {rs : List Register} {i : ℕ} {x : Edge} → RegistersValid m rs
+    → GetEnsures rs i (Some x) → x.weight < modulus
+operand_small g r = (operand_valid g r).small
+
+small_comparison : (A B : Tensor indices) (r : Comparison) → ComparisonMeans A B r → SmallAnswer (Ok (comparison r))
 small_comparison A B compare.Same n = tt
 small_comparison A B (compare.Factor f) n = omega (arith, n.small)
 small_comparison A B compare.Differ n = tt
 
 -- a call that answers n and leaves everything as it was
-answers_only : {c s : List ℕ} {e : Contents} {x : Call} {n : Answer} → EngineInvariant c s e → SmallAnswer n
+answers_only : {c s : List ℕ} {e : Contents} {x : Call} {n : Result Answer Refusal} → EngineInvariant c s e → SmallAnswer n
     → answer (at_most (capacity s)) x (tally_of s e) ≡ (n, tally_of s e)
     → Forgets x c (record { answer = n; engine = e })
     → RespondEnsures c s s e x (record { answer = n; engine = e })
@@ -289,54 +293,52 @@ answers_only p small is forgets =
       forgets = forgets;
     }
 
-module _ {c s : List ℕ} {e : Contents} {a : ℕ} {h : Register} {x : Edge} (p : EngineInvariant c s e)
-    (i : GetEnsures e.registers.all a h)
-    (o : h ≡ Some x) where
+module _ {c s : List ℕ} {e : Contents} {a : ℕ} {x : Edge} (p : EngineInvariant c s e)
+    (i : GetEnsures e.registers.all a (Some x)) where
   pub responds_drop : {rs : Registers} → rs.all ≡ set e.registers.all a empty_register
       → RespondEnsures c s s e (call.Drop a)
-      (record { answer = Ok e.state.count; engine = record { state = e.state; registers = rs } })
+      (record { answer = Ok (Done e.state.count); engine = record { state = e.state; registers = rs } })
   unfolding answer accept node_count tally_of holds
   responds_drop {rs} q = record {
     invariant = invariant_clear a p q;
     small = omega (arith, p.sound.stored.numbered);
-    is = operand s e i _ o
+    is = operand s e _ i
         ∙ rw (set_length s e.state, q, holds_set (set_of s e.state) e.registers.all a empty_register);
     refused = λ no. absurd (false≢true no);
-    forgets = never_full (Ok e.state.count) refl;
+    forgets = never_full (Ok (Done e.state.count)) refl;
   }
 
   pub responds_at : {v w : ℕ} → Represents w (value (tensor_of s e.state x) v)
-      → RespondEnsures c s s e (call.At a v) (record { answer = Value w; engine = e })
+      → RespondEnsures c s s e (call.At a v) (record { answer = Ok (Value w); engine = e })
   unfolding answer
   responds_at {v} {w} n =
       answers_only p (omega (arith, n.small))
-      (operand s e i _ o ∙ ap (λ n. (Value n, tally_of s e)) (sym (represents_number n))) (never_full (Value w) refl)
+      (operand s e _ i ∙ ap (λ n. (Ok (Value n), tally_of s e)) (sym (represents_number n))) (never_full (Ok (Value w)) refl)
 
   pub responds_on : {m : ℕ} → m ≡ support_mask (tensor_of s e.state x) → m < masks
-      → RespondEnsures c s s e (call.On a) (record { answer = Mask m; engine = e })
+      → RespondEnsures c s s e (call.On a) (record { answer = Ok (Mask m); engine = e })
   unfolding answer
   responds_on {m} is small =
       answers_only p (omega (arith, small))
-      (operand s e i _ o ∙ ap (λ n. (Mask n, tally_of s e)) (sym is)) (never_full (Mask m) refl)
+      (operand s e _ i ∙ ap (λ n. (Ok (Mask n), tally_of s e)) (sym is)) (never_full (Ok (Mask m)) refl)
 
-  pub responds_cmp : {b : ℕ} {g : Register} {y : Edge} {r : Comparison} {n : Answer}
-      → GetEnsures e.registers.all b g → g ≡ Some y
+  pub responds_cmp : {b : ℕ} {y : Edge} {r : Comparison} {n : Answer} → GetEnsures e.registers.all b (Some y)
       → CompareEnsures x y r → n ≡ comparison r
-      → RespondEnsures c s s e (call.Cmp a b) (record { answer = n; engine = e })
+      → RespondEnsures c s s e (call.Cmp a b) (record { answer = Ok n; engine = e })
   unfolding answer
-  responds_cmp {b} {g} {y} {r} {n} j q w m =
+  responds_cmp {b} {y} {r} {n} j w m =
       let t : compared (tensor_of s e.state x) (tensor_of s e.state y) ≡ r =
-      w.is s e.state p.sound (read_valid h p.registers i o) (read_valid g p.registers j q) in
+      w.is s e.state p.sound (operand_valid p.registers i) (operand_valid p.registers j) in
       answers_only p
-      (subst SmallAnswer (sym m) (small_comparison _ _ r
+      (subst (λ z. SmallAnswer (Ok z)) (sym m) (small_comparison _ _ r
       (subst (ComparisonMeans _ _) t (compared_means (tensor_of s e.state x) (tensor_of s e.state y)))))
-      (operand s e i _ o ∙ operand s e j _ q ∙ ap (λ z. (z, tally_of s e)) (ap comparison t ∙ sym m))
-      (never_full n (ap is_no m ∙ comparison_accepted r))
+      (operand s e _ i ∙ operand s e _ j ∙ ap (λ z. (Ok z, tally_of s e)) (ap comparison t ∙ sym m))
+      (never_full (Ok n) refl)
 
 pub responds_collect : {c' s s' : List ℕ} {e : Contents} {st : State} {rs : Registers}
     → CollectEnsures c' s s' e.state st e.registers.all rs.all
     → RespondEnsures c' s s' e call.Collect
-    (record { answer = Ok st.count; engine = record { state = st; registers = rs } })
+    (record { answer = Ok (Done st.count); engine = record { state = st; registers = rs } })
 unfolding answer accept node_count tally_of
 responds_collect {s' = s'} {st = st} w = record {
   invariant = invariant_collect w;

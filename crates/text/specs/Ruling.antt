@@ -1,5 +1,5 @@
 -- A verdict's answer (document 01, "Verdicts"): what is printed.
-use Rattle.std.specs.Prelude.{[], ◌∷◌, ◌≡◌, ℕ, ◌≤◌, ◌^◌, ◌<◌, length}
+use Rattle.std.specs.Prelude.{[], ◌∷◌, ◌≡◌, ℕ, ◌≤◌, ◌^◌, ◌<◌, length, Result, Ok, Err}
 use Rattle.text.specs.Text.{Bytes, bytes}
 use Rattle.text.specs.Limits.{last_weight, verdict_room}
 use Rattle.text.specs.Print.{decimal, written}
@@ -7,7 +7,8 @@ use Rattle.text.specs.Answer.{line_of_fields, printed}
 use Rattle.text.specs.declared.check.Fault.{Fault}
 use Rattle.text.specs.declared.check.Fault.TheVariants.{Header as BadHeader, Line, Qubit, Equal, Parting, Full}
 use Rattle.text.specs.declared.ruling.Ruling.{Ruling}
-use Rattle.text.specs.declared.ruling.Ruling.TheVariants.{Same, Factor, Differ, No}
+use Rattle.text.specs.declared.ruling.Ruling.TheVariants.{Same, Factor, Differ}
+use Rattle.text.specs.declared.check.FaultAt.{FaultAt}
 use Rattle.text.specs.declared.answer.Answer.TheVariants as answer
 
 -- "10 bad first line; within a gate line 11 (unknown name, wrong count of fields, or a qubit not one digit), 12 (qubit
@@ -21,28 +22,32 @@ fault_number Parting = 14
 fault_number Full = 8
 
 -- Verdicts are "answered as in sessions"; "Refused as `no`, number, line counted from 1".
-unfoldable pub printed_ruling : Ruling → Bytes
-printed_ruling Same = printed answer.Same
-printed_ruling (Factor f) = printed (answer.Factor f)
-printed_ruling Differ = printed answer.Differ
-printed_ruling (No f line) = line_of_fields (bytes "no" ∷ decimal (fault_number f) ∷ decimal line ∷ [])
+unfoldable pub printed_ruling : Result Ruling FaultAt → Bytes
+printed_ruling (Ok Same) = printed (Ok answer.Same)
+printed_ruling (Ok (Factor f)) = printed (Ok (answer.Factor f))
+printed_ruling (Ok Differ) = printed (Ok answer.Differ)
+printed_ruling (Err at) = line_of_fields (bytes "no" ∷ decimal (fault_number at.fault) ∷ decimal at.line ∷ [])
+
+-- a text refused with this fault at this line
+abbrev pub no_at : Fault → ℕ → Result Ruling FaultAt
+no_at f line = Err (record { fault = f; line = line })
 
 -- a factor is a weight
-abbrev pub SmallRuling : Ruling → Type 0
-SmallRuling Same = Unit
-SmallRuling (Factor f) = f ≤ last_weight
-SmallRuling Differ = Unit
-SmallRuling (No f line) = Unit
+abbrev pub SmallRuling : Result Ruling FaultAt → Type 0
+SmallRuling (Ok Same) = Unit
+SmallRuling (Ok (Factor f)) = f ≤ last_weight
+SmallRuling (Ok Differ) = Unit
+SmallRuling (Err at) = Unit
 
 -- an answer is written at the start of l, and r is how many bytes it has: at most 32
-pub record RulingWritten (l : Bytes) (ruling : Ruling) (l' : Bytes) (r : ℕ) : Type 0 where
+pub record RulingWritten (l : Bytes) (ruling : Result Ruling FaultAt) (l' : Bytes) (r : ℕ) : Type 0 where
   pub exact : l' ≡ written l 0 (printed_ruling ruling)
   pub count : r ≡ length (printed_ruling ruling)
   pub short : r ≤ verdict_room
 
 -- a ruling whose number has at most 20 digits
-abbrev pub ShortRuling : Ruling → Type 0
-ShortRuling Same = Unit {0}
-ShortRuling (Factor f) = f < 10 ^ 20
-ShortRuling Differ = Unit {0}
-ShortRuling (No f line) = line < 10 ^ 20
+abbrev pub ShortRuling : Result Ruling FaultAt → Type 0
+ShortRuling (Ok Same) = Unit {0}
+ShortRuling (Ok (Factor f)) = f < 10 ^ 20
+ShortRuling (Ok Differ) = Unit {0}
+ShortRuling (Err at) = at.line < 10 ^ 20

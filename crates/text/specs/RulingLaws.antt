@@ -1,16 +1,17 @@
 -- Laws of Ruling: a verdict's answer has at most 32 bytes.
-use Rattle.std.specs.Prelude.{◌≡◌, ℕ, ◌+◌, ◌^◌, ◌≤◌, ◌<◌, length}
+use Rattle.std.specs.Prelude.{◌≡◌, ℕ, ◌+◌, ◌^◌, ◌≤◌, ◌<◌, length, Result}
 use mathlib.Core.List.{[], ◌∷◌, ◌++◌, append_assoc}
-use Rattle.std.proofs.Common.{arith}
+use Rattle.std.proofs.Common.{ap, arith}
 use Rattle.std.proofs.Math.ListN.{length-append}
 use Rattle.text.specs.Text.{Bytes, bytes, LF, tab}
 use Rattle.text.specs.Limits.{verdict_room}
 use Rattle.text.specs.Print.{decimal, WriteEnsures}
 use Rattle.text.specs.Answer.{line_of_fields, printed, AnswerWritten}
-use Rattle.text.specs.Ruling.{fault_number, printed_ruling, RulingWritten}
+use Rattle.text.specs.Ruling.{fault_number, printed_ruling, no_at, RulingWritten}
 use Rattle.text.specs.PrintLaws.{wrote_then, wrote_room, decimal_length}
 use Rattle.text.specs.declared.check.Fault.{Fault}
-use Rattle.text.specs.declared.ruling.Ruling.TheVariants.{No}
+use Rattle.text.specs.declared.check.FaultAt.{FaultAt}
+use Rattle.text.specs.declared.call.Refusal.{Refusal}
 use Rattle.text.specs.declared.answer.Answer.{Answer}
 use Rattle.text.specs.declared.ruling.Ruling.{Ruling}
 
@@ -44,7 +45,7 @@ module _ (l : Bytes) (n line : ℕ) (room : verdict_room ≤ length l) (small : 
   pub refusal_wrote : {l1 l2 l3 : Bytes} {a b r : ℕ} (f : Fault) → n ≡ fault_number f
       → WriteEnsures l 0 (bytes "no\t" ++ decimal n) l1 a
       → WriteEnsures l1 a (tab ∷ decimal line) l2 b
-      → WriteEnsures l2 b (LF ∷ []) l3 r → RulingWritten l (No f line) l3 r
+      → WriteEnsures l2 b (LF ∷ []) l3 r → RulingWritten l (no_at f line) l3 r
   unfolding printed_ruling line_of_fields
   refusal_wrote f e w v u =
       let start : Bytes = (bytes "no\t" ++ decimal n) ++ (tab ∷ decimal line) in
@@ -56,8 +57,13 @@ module _ (l : Bytes) (n line : ℕ) (room : verdict_room ≤ length l) (small : 
         short = omega (arith, all.after, length-append start (LF ∷ []), refusal_size);
       }
 
+pub no_at_same : {f g : Fault} {line at : ℕ} → no_at f line ≡ no_at g at → (f ≡ g) × (line ≡ at)
+no_at_same {f} {g} {line} {at} e =
+    let o : ◌≡◌ {A = FaultAt} (record { fault = f; line = line }) (record { fault = g; line = at }) = cc in
+    (ap (λ (x : FaultAt). x.fault) o, ap (λ (x : FaultAt). x.line) o)
+
 -- an answer that fits 16 bytes fits 32
-pub ruling_written_answer : {l l' : Bytes} {r : ℕ} (a : Answer) (ruling : Ruling) → printed_ruling ruling ≡ printed a
+pub ruling_written_answer : {l l' : Bytes} {r : ℕ} (a : Result Answer Refusal) (ruling : Result Ruling FaultAt) → printed_ruling ruling ≡ printed a
     → AnswerWritten l 0 a l' r → RulingWritten l ruling l' r
 ruling_written_answer a ruling e p = record {
   exact = rw e p.exact;

@@ -1,6 +1,6 @@
 -- Laws of Runs: a list's calls run through, and its register ends with its tensor.
 use Rattle.std.specs.Prelude.{◌≡◌, refl, Bool, true, false, cond, ℕ, ◌-◌, ◌+◌, suc, ◌*◌, ◌≤◌, ◌<◌, leb, length, set}
-use Rattle.std.specs.Prelude.{get_or}
+use Rattle.std.specs.Prelude.{get_or, Ok, Err}
 use Rattle.std.proofs.Common.{ap, ◌∙◌}
 use Rattle.std.proofs.Math.Option.{some, Option, none}
 use mathlib.Core.List.{List, [], ◌∷◌, ◌++◌}
@@ -37,7 +37,7 @@ use Rattle.text.specs.declared.answer.Answer.TheVariants as answers
 use Rattle.text.specs.declared.call.Call.TheVariants as call
 
 runs_settled : {d : ℕ} (c : Capacity) (P : RegisterList d → Type 0) (b : Bool) (n : ℕ) (s t : Tally d)
-    → (b ≡ false → IsLimited c) → P s.registers → OneCallRuns c P (cond b (answers.Ok n, s) (answers.No Full, t))
+    → (b ≡ false → IsLimited c) → P s.registers → OneCallRuns c P (cond b (Ok (answers.Done n), s) (Err Full, t))
 runs_settled c P true n s t l h = on h
 runs_settled c P false n s t l h = full (l refl)
 
@@ -60,13 +60,8 @@ continue_then : {d : ℕ} {c : Capacity} (P Q : RegisterList d → Type 0) (line
     → AllCallsRun c P (continue_with line x f) → ((t : Tally d) → AllCallsRun c P (f t) → AllCallsRun c Q (g t))
     → AllCallsRun c Q (continue_with line x g)
 unfolding continue_with
-continue_then P Q line (answers.Ok n, t) f g r h = h t r
-continue_then P Q line (answers.No x, t) f g (full l) h = full l
-continue_then P Q line (answers.Value w, t) f g r h = h t r
-continue_then P Q line (answers.Same, t) f g r h = h t r
-continue_then P Q line (answers.Factor w, t) f g r h = h t r
-continue_then P Q line (answers.Differ, t) f g r h = h t r
-continue_then P Q line (answers.Mask m, t) f g r h = h t r
+continue_then P Q line (Ok a, t) f g r h = h t r
+continue_then P Q line (Err x, t) f g (full l) h = full l
 
 -- calls, and then more calls
 pub runs_append : {d : ℕ} {c : Capacity} (P Q : RegisterList d → Type 0) (xs ys : List NumberedCall) (t : Tally d)

@@ -3,7 +3,7 @@
 -- and nothing that the engine holds or answers." d is the number of indices: 24 in the engine, fewer where the checker
 -- computes a session.
 use Rattle.std.specs.Prelude.{Bool, true, cond, List, [], ◌++◌, ◌∷◌, ℕ, ◌-◌, suc, ◌+◌, leb, replicate, length, set}
-use Rattle.std.specs.Prelude.{get_or, Result, Ok as Read, Err as Refused}
+use Rattle.std.specs.Prelude.{get_or, Result, Ok, Err}
 use Rattle.std.proofs.Math.Option.{Option, none, some}
 use Rattle.diagram.specs.Tensor.{Tensor, bits, value, constant, depends}
 use Rattle.diagram.specs.Tally.{Set, sum, cont, low, build, collect, filled_tensors}
@@ -17,7 +17,7 @@ use Rattle.text.specs.Limits.{register_count, answer_room}
 use Rattle.text.specs.Line.{read_line}
 use Rattle.text.specs.Answer.{printed}
 use Rattle.text.specs.declared.answer.Answer.{Answer}
-use Rattle.text.specs.declared.answer.Answer.TheVariants.{No, Ok, Same, Factor, Differ, Value, Mask}
+use Rattle.text.specs.declared.answer.Answer.TheVariants.{Done, Same, Factor, Differ, Value, Mask}
 use Rattle.text.specs.declared.call.Refusal.{Refusal}
 use Rattle.text.specs.declared.call.Refusal.TheVariants.{Full, Empty, Depends}
 use Rattle.diagram.specs.declared.compare.Comparison.{Comparison}
@@ -50,15 +50,15 @@ node_count t = length t.nodes
 
 -- a call answers, and leaves the tally
 abbrev pub TallyReply : ℕ → Type 0
-TallyReply d = Answer × Tally d
+TallyReply d = Result Answer Refusal × Tally d
 
 -- "A refused line leaves set and registers as they were." ".. a refused one `no` and its number."
 unfoldable pub refuse : {d : ℕ} → Refusal → Tally d → TallyReply d
-refuse r t = (No r, t)
+refuse r t = (Err r, t)
 
 -- "An accepted call that sets or frees answers `ok` and the node count"
 unfoldable pub accept : {d : ℕ} → Tally d → TallyReply d
-accept t = (Ok (node_count t), t)
+accept t = (Ok (Done (node_count t)), t)
 
 -- register r set to what a step answered. "A call whose set would exceed the capacity is refused as 8 (full), and set
 -- and registers are as before it." "Register d is set last, after the operands are read, and may equal one of them."
@@ -103,19 +103,19 @@ answer c (call.Drop a) t =
 answer c call.Collect t =
     accept (record { nodes = collect (filled_tensors t.registers) t.nodes; registers = t.registers })
 -- "`at a v`: answers `v` and the value at assignment v"
-answer c (call.At a v) t = with_register t a (λ A. (Value (value A v).number, t))
+answer c (call.At a v) t = with_register t a (λ A. (Ok (Value (value A v).number), t))
 -- "`cmp a b`"
-answer c (call.Cmp a b) t = with_register t a (λ A. with_register t b (λ B. (comparison (compared A B), t)))
+answer c (call.Cmp a b) t = with_register t a (λ A. with_register t b (λ B. (Ok (comparison (compared A B)), t)))
 -- "`on a` answers `m` and the register's mask": bit k is set exactly when the tensor depends on index k
-answer c (call.On a) t = with_register t a (λ A. (Mask (support_mask A), t))
+answer c (call.On a) t = with_register t a (λ A. (Ok (Mask (support_mask A)), t))
 -- "`lows d a m` lowers every index of the set m at the same moment. .. A clash is 7, in the place that `low` has it"
 answer c (call.Lows r a m) t =
     with_register t a (λ A. cond (clash (bits m) A) (refuse Depends t) (settle c r (lows (bits m) A t.nodes) t))
 
 -- what a line does and answers: its call's, or what its reader refused
 abbrev pub answer_read : {d : ℕ} → Capacity → Result Call Refusal → Tally d → TallyReply d
-answer_read c (Read x) t = answer c x t
-answer_read c (Refused r) t = refuse r t
+answer_read c (Ok x) t = answer c x t
+answer_read c (Err r) t = refuse r t
 
 -- the run so far: "the code (0 or 9), lines answered, bytes written, the node count and the sixteen registers"
 pub record TallyRun (d : ℕ) : Type 0 where

@@ -1,6 +1,6 @@
 -- Laws of Session: lines after lines, refused calls, and what fits the capacity.
 use Rattle.std.specs.Prelude.{◌≡◌, Bool, ℕ, ◌+◌, ◌-◌, ◌≤◌, suc, length, get_or}
-use Rattle.std.specs.Prelude.{Result, Ok as Read, Err as Refused}
+use Rattle.std.specs.Prelude.{Result, Ok, Err, IsErr}
 use Rattle.std.proofs.Math.Path.{refl, sym}
 use Rattle.std.proofs.Math.Bool.{true, false, cond}
 use Rattle.std.proofs.lemmas.Bool.{false≢true}
@@ -15,14 +15,13 @@ use Rattle.diagram.specs.Tally.{Set, member, keep_only, collect}
 use Rattle.text.specs.Text.{Bytes}
 use Rattle.text.specs.Limits.{answer_room}
 use Rattle.text.specs.Line.{read_line}
-use Rattle.text.specs.Answer.{is_no}
 use Rattle.text.specs.Session.{Capacity, answer, answer_read, TallyRun, with_answer, stopped_run, run, Tally}
 use Rattle.text.specs.Session.{TallyReply, fits}
 use Rattle.text.specs.Session.{accept, refuse, settle, with_tensor, with_register, at_most, unlimited, node_count}
 use Rattle.text.specs.declared.call.Refusal.TheVariants.{Full, Depends}
 use Rattle.text.specs.declared.call.Call.{Call}
 use Rattle.text.specs.declared.call.Refusal.{Refusal}
-use Rattle.text.specs.declared.answer.Answer.TheVariants.{Ok}
+use Rattle.text.specs.declared.answer.Answer.TheVariants.{Done}
 use Rattle.text.specs.declared.call.Call.TheVariants as call
 
 module _ {d : ℕ} (c : Capacity) (room : ℕ) where
@@ -52,7 +51,7 @@ module _ {d : ℕ} (c : Capacity) (room : ℕ) where
 -- "A refused line leaves set and registers as they were."
 
 abbrev UnchangedIfRefused : {d : ℕ} → Tally d → TallyReply d → Type 0
-UnchangedIfRefused t y = is_no y.0 ≡ true → y.1 ≡ t
+UnchangedIfRefused t y = IsErr y.0 → y.1 ≡ t
 
 module _ {d : ℕ} (c : Capacity) (t : Tally d) where
   kept_settle : (r : ℕ) (y : Tensor d × Set d) → UnchangedIfRefused t (settle c r y t)
@@ -80,7 +79,7 @@ module _ {d : ℕ} (c : Capacity) (t : Tally d) where
   kept_unless true r y = λ e. refl
   kept_unless false r y = kept_settle r y
 
-  pub refused_leaves : (x : Call) → is_no (answer c x t).0 ≡ true → (answer c x t).1 ≡ t
+  pub refused_leaves : (x : Call) → IsErr (answer c x t).0 → (answer c x t).1 ≡ t
   unfolding answer accept refuse
   refused_leaves (call.Put r w) = kept_settle r _
   refused_leaves (call.Gate r g) = kept_settle r _
@@ -155,11 +154,11 @@ module _ {d : ℕ} (c : Capacity) (t : Tally d) (h : fits c (node_count t) ≡ t
 
   pub read_fits : (x : Result Call Refusal) → fits c (node_count (answer_read c x t).1) ≡ true
   unfolding refuse
-  read_fits (Read x) = answer_fits x
-  read_fits (Refused r) = h
+  read_fits (Ok x) = answer_fits x
+  read_fits (Err r) = h
 
   -- "`put d w` .. Refuses 1, 2, 4."
-  pub put_accepted : (r w : ℕ) → (answer c (call.Put r w) t).0 ≡ Ok (node_count t)
+  pub put_accepted : (r w : ℕ) → (answer c (call.Put r w) t).0 ≡ Ok (Done (node_count t))
   unfolding answer settle accept node_count
   put_accepted r w = rw h
 

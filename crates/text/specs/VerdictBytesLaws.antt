@@ -1,6 +1,6 @@
 -- The sentences of VerdictBytes follow from `VerdictEnsures`, which the running code promises: for every text, store
 -- and output.
-use Rattle.std.specs.Prelude.{◌≡◌, refl, List, ◌≢◌, ◌↔◌, ◌⊎◌, ℕ, ◌^◌, ◌<◌, ◌≤◌, length}
+use Rattle.std.specs.Prelude.{◌≡◌, refl, List, ◌≢◌, ◌↔◌, ◌⊎◌, ℕ, ◌^◌, ◌<◌, ◌≤◌, length, Result, Ok, Err}
 use Rattle.std.proofs.Common.{sym, subst, ◌∙◌, ap, inl, inr, arith, lt-ltb}
 use Rattle.std.proofs.Math.Logic.Iff as Iff
 use Rattle.std.proofs.Math.Option.{Option, some}
@@ -11,7 +11,7 @@ use Rattle.text.specs.Limits.{verdict_room}
 use Rattle.text.specs.Print.{decimal}
 use Rattle.text.specs.Session.{Capacity, at_most}
 use Rattle.text.specs.Check.{Reading, lists, fault, read_text}
-use Rattle.text.specs.Ruling.{printed_ruling}
+use Rattle.text.specs.Ruling.{printed_ruling, no_at}
 use Rattle.text.specs.VerdictSession.{ruling_on, verdict_result}
 use Rattle.text.specs.Agrees.{AgreeEverywhere}
 use Rattle.text.specs.Product.{list_matrix}
@@ -32,12 +32,13 @@ use Rattle.diagram.specs.declared.gate.Gate.{Gate}
 use Rattle.text.specs.declared.ruling.Ruling.{Ruling}
 use Rattle.text.specs.declared.check.Fault.{Fault}
 use Rattle.text.specs.declared.check.Fault.TheVariants.{Full}
-use Rattle.text.specs.declared.ruling.Ruling.TheVariants.{Same, Factor, Differ, No}
+use Rattle.text.specs.declared.ruling.Ruling.TheVariants.{Same, Factor, Differ}
+use Rattle.text.specs.declared.check.FaultAt.{FaultAt}
 use Rattle.text.specs.declared.ruling.VerdictResult.{VerdictResult}
 
 -- What two lists stand for, and what the verdict says of it
 
-record Known {X : Type 0} (Of : ℕ → List Gate → X → Type 0) (E : X → X → Type 0) (T : ℕ → X → X → Type 0) (q : Ruling)
+record Known {X : Type 0} (Of : ℕ → List Gate → X → Type 0) (E : X → X → Type 0) (T : ℕ → X → X → Type 0) (q : Result Ruling FaultAt)
     (n : ℕ) (gs hs : List Gate) : Type 0 where
   first : X
   second : X
@@ -54,7 +55,7 @@ module _ {X : Type 0} (Of : ℕ → List Gate → X → Type 0) (E : X → X →
   Shown P = (n : ℕ) (gs hs : List Gate) (k : Known Of E T (ruling_on indices c text) n gs hs) → P k.first k.second
 
   -- from a ruling to the lists ..
-  lists_are : (P : X → X → Type 0) → ((f : Fault) (line : ℕ) → ruling_on indices c text ≢ No f line) → Shown P
+  lists_are : (P : X → X → Type 0) → ((f : Fault) (line : ℕ) → ruling_on indices c text ≢ no_at f line) → Shown P
       → ListsAre Of c text P
   lists_are P h p = go (read_text text) refl
     where
@@ -85,7 +86,7 @@ module _ {X : Type 0} (Of : ℕ → List Gate → X → Type 0) (E : X → X →
       h a.n a.gs a.hs k (subst (λ A. P A k.second) (k.first_only a.first a.first_is)
       (subst (λ B. P a.first B) (k.second_only a.second a.second_is) a.are))
 
-  exactly : (P : X → X → Type 0) (q : Ruling) → ((f : Fault) (line : ℕ) → q ≢ No f line)
+  exactly : (P : X → X → Type 0) (q : Result Ruling FaultAt) → ((f : Fault) (line : ℕ) → q ≢ no_at f line)
       → ((n : ℕ) (gs hs : List Gate) (k : Known Of E T (ruling_on indices c text) n gs hs)
       → (ruling_on indices c text ≡ q) ↔ P
       k.first k.second)
@@ -95,26 +96,26 @@ module _ {X : Type 0} (Of : ℕ → List Gate → X → Type 0) (E : X → X →
     ruling_from_lem P (ruling_on indices c text ≡ q) (λ n gs hs k. (t n gs hs k).1),
   )
 
-  same_ruling : (ruling_on indices c text ≡ Same) ↔ ListsAre Of c text E
-  same_ruling = exactly E Same (λ f line e. let z : ◌≡◌ {A = ℕ} 0 1 = cc in omega arith) (λ n gs hs k. k.meaning.same)
+  same_ruling : (ruling_on indices c text ≡ Ok Same) ↔ ListsAre Of c text E
+  same_ruling = exactly E (Ok Same) (λ f line e. let z : ◌≡◌ {A = ℕ} 0 1 = cc in omega arith) (λ n gs hs k. k.meaning.same)
 
-  differ_ruled : (ruling_on indices c text ≡ Differ)
+  differ_ruled : (ruling_on indices c text ≡ Ok Differ)
       ↔ ListsAre Of c text (λ A B. (¬ E A B) × (¬ ((f : ℕ) × (T f A B ⊎ T f B A))))
   differ_ruled =
-      exactly _ Differ (λ f line e. let z : ◌≡◌ {A = ℕ} 0 1 = cc in omega arith) (λ n gs hs k. k.meaning.differ)
+      exactly _ (Ok Differ) (λ f line e. let z : ◌≡◌ {A = ℕ} 0 1 = cc in omega arith) (λ n gs hs k. k.meaning.differ)
 
-  factor_of_ruled : (f : ℕ) → (ruling_on indices c text ≡ Factor f) ↔ ListsAre Of c text
+  factor_of_ruled : (f : ℕ) → (ruling_on indices c text ≡ Ok (Factor f)) ↔ ListsAre Of c text
       (λ A B. (¬ E A B) × (f ≢ 1) × T f A B)
   factor_of_ruled f =
-      exactly _ (Factor f) (λ g line e. let z : ◌≡◌ {A = ℕ} 0 1 = cc in omega arith)
+      exactly _ (Ok (Factor f)) (λ g line e. let z : ◌≡◌ {A = ℕ} 0 1 = cc in omega arith)
       (λ n gs hs k. k.meaning.factor_of f)
 
-  factor_ruled : ((f : ℕ) × (ruling_on indices c text ≡ Factor f))
+  factor_ruled : ((f : ℕ) × (ruling_on indices c text ≡ Ok (Factor f)))
       ↔ ListsAre Of c text (λ A B. (¬ E A B) × ((f : ℕ) × (T f A B ⊎ T f B A)))
   factor_ruled = (
     λ p.
         lists_are _
-        (λ g line z. let y : Factor p.0 ≡ No g line = sym p.1 ∙ z in let o : ◌≡◌ {A = ℕ} 0 1 = cc in omega arith)
+        (λ g line z. let y : Ok (Factor p.0) ≡ no_at g line = sym p.1 ∙ z in let o : ◌≡◌ {A = ℕ} 0 1 = cc in omega arith)
         (λ n gs hs k. k.meaning.factor.0 p),
     ruling_from_lem _ _ (λ n gs hs k. k.meaning.factor.1),
   )
@@ -122,32 +123,32 @@ module _ {X : Type 0} (Of : ℕ → List Gate → X → Type 0) (E : X → X →
 -- The ruling by its bytes
 
 module _ (c : Capacity) (text : Bytes) {W : Bytes} (w : W ≡ printed_ruling (ruling_on indices c text)) where
-  bytes_same : (W ≡ same_line) ↔ (ruling_on indices c text ≡ Same)
+  bytes_same : (W ≡ same_line) ↔ (ruling_on indices c text ≡ Ok Same)
   bytes_same = (λ e. printed_same (ruling_on indices c text) (sym w ∙ e), λ q. w ∙ ap printed_ruling q ∙ prints_same)
 
-  bytes_differ : (W ≡ differ_line) ↔ (ruling_on indices c text ≡ Differ)
+  bytes_differ : (W ≡ differ_line) ↔ (ruling_on indices c text ≡ Ok Differ)
   bytes_differ = (
     λ e. printed_differ (ruling_on indices c text) (sym w ∙ e),
     λ q. w ∙ ap printed_ruling q ∙ prints_differ,
   )
 
-  bytes_factor : (f : ℕ) → (W ≡ factor_line f) ↔ (ruling_on indices c text ≡ Factor f)
+  bytes_factor : (f : ℕ) → (W ≡ factor_line f) ↔ (ruling_on indices c text ≡ Ok (Factor f))
   bytes_factor f = (to, λ q. w ∙ ap printed_ruling q ∙ prints_factor f)
     where
-      to : W ≡ factor_line f → ruling_on indices c text ≡ Factor f
+      to : W ≡ factor_line f → ruling_on indices c text ≡ Ok (Factor f)
       to e =
           let p = printed_factor (ruling_on indices c text) f (sym w ∙ e) in
-          p.1 ∙ ap Factor (decimal_exact p.0 f (omega (arith, factor_small c text p.0 p.1)) p.2)
+          p.1 ∙ ap (λ n. Ok (Factor n)) (decimal_exact p.0 f (omega (arith, factor_small c text p.0 p.1)) p.2)
 
   bytes_no : length text < 2 ^ 64 → (f : Fault) (line : ℕ) → line < 10 ^ 20
-      → (W ≡ no_line f line) ↔ (ruling_on indices c text ≡ No f line)
+      → (W ≡ no_line f line) ↔ (ruling_on indices c text ≡ no_at f line)
   bytes_no h f line b = (to, λ q. w ∙ ap printed_ruling q ∙ prints_no f line)
     where
-      to : W ≡ no_line f line → ruling_on indices c text ≡ No f line
+      to : W ≡ no_line f line → ruling_on indices c text ≡ no_at f line
       to e =
           let p = printed_no (ruling_on indices c text) f line (sym w ∙ e) in
           let m = line_most c text f p.0 ((refused_at_lem c text f p.0).0 p.1) in
-          p.1 ∙ ap (No f) (decimal_injective p.0 line (omega (arith, m, h)) b p.2)
+          p.1 ∙ ap (no_at f) (decimal_injective p.0 line (omega (arith, m, h)) b p.2)
 
   bytes_digits : (f : Fault) (line : ℕ)
       → (W ≡ no_line f line) ↔ ((l : ℕ) × (decimal l ≡ decimal line) × RefusedAt c text f l)
@@ -164,11 +165,11 @@ module _ (c : Capacity) (text : Bytes) {W : Bytes} (w : W ≡ printed_ruling (ru
   bytes_four : OneOfFour W
   bytes_four = go (ruling_on indices c text) refl
     where
-      go : (q : Ruling) → ruling_on indices c text ≡ q → OneOfFour W
-      go Same q = inl (w ∙ ap printed_ruling q ∙ prints_same)
-      go (Factor f) q = inr (inl (f, w ∙ ap printed_ruling q ∙ prints_factor f))
-      go Differ q = inr (inr (inl (w ∙ ap printed_ruling q ∙ prints_differ)))
-      go (No f line) q = inr (inr (inr (f, line, w ∙ ap printed_ruling q ∙ prints_no f line)))
+      go : (q : Result Ruling FaultAt) → ruling_on indices c text ≡ q → OneOfFour W
+      go (Ok Same) q = inl (w ∙ ap printed_ruling q ∙ prints_same)
+      go (Ok (Factor f)) q = inr (inl (f, w ∙ ap printed_ruling q ∙ prints_factor f))
+      go (Ok Differ) q = inr (inr (inl (w ∙ ap printed_ruling q ∙ prints_differ)))
+      go (Err at) q = inr (inr (inr (at.fault, at.line, w ∙ ap printed_ruling q ∙ prints_no at.fault at.line)))
 
 some_factor : {A B : ℕ → Type 0} → ((f : ℕ) → A f ↔ B f) → ((f : ℕ) × A f) ↔ ((f : ℕ) × B f)
 some_factor h = (λ p. (p.0, (h p.0).0 p.1), λ p. (p.0, (h p.0).1 p.1))

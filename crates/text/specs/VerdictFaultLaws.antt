@@ -3,34 +3,32 @@ use Rattle.std.specs.Prelude.{◌≡◌, refl, Bool, true, false, cond, List, []
 use Rattle.std.specs.Prelude.{Option, Some, None, Result, Ok, Err}
 use Rattle.std.proofs.Common.{sym, subst, ◌∙◌}
 use Rattle.diagram.specs.Tensor.{indices, Tensor}
-use Rattle.diagram.specs.Compare.{compared}
 use Rattle.text.specs.Text.{Bytes, bytes, same_bytes, fields, lines}
 use Rattle.text.specs.Args.{numbers}
 use Rattle.text.specs.Names.{one_qubit, two_qubits}
-use Rattle.text.specs.Session.{Capacity, unlimited, comparison}
+use Rattle.text.specs.Session.{Capacity, unlimited}
 use Rattle.text.specs.Check.{fault, read_text, Reading, lists, ensured, one_qubit_item, two_qubit_item, gate_item_of}
 use Rattle.text.specs.Check.{gate_item_fields, item_of, with_second, second_item, second_list, with_first, first_item}
 use Rattle.text.specs.Check.{first_list, header_of, after_header, read_lines}
-use Rattle.text.specs.VerdictSession.{ruling_of_reading, ruling_on, ruling_of_answer}
+use Rattle.text.specs.Ruling.{no_at}
+use Rattle.text.specs.VerdictSession.{ruling_of_reading, ruling_on}
 use Rattle.text.specs.VerdictMeaning.{NotFull}
 use Rattle.text.specs.Runs.{GoodTextRuling, was_full, was_compared}
 use Rattle.text.specs.ArgsLaws.{by_count_lem, known_lem}
 use Rattle.text.specs.VerdictSessionLaws.{ruling_judged}
 use Rattle.text.specs.declared.args.Args.{Args}
 use Rattle.text.specs.declared.check.Fault.{Fault}
-use Rattle.text.specs.declared.ruling.Ruling.TheVariants.{No, Same, Factor, Differ}
+use Rattle.text.specs.declared.check.FaultAt.{FaultAt}
 use Rattle.text.specs.declared.check.Item.{Item}
 use Rattle.text.specs.declared.ruling.Ruling.{Ruling}
 use Rattle.diagram.specs.declared.gate.Gate.{Gate}
 use Rattle.text.specs.declared.args.Args.TheVariants.{Zero}
-use Rattle.diagram.specs.declared.compare.Comparison.{Comparison}
 use Rattle.text.specs.declared.check.Fault.TheVariants as faults
 use Rattle.text.specs.declared.check.Item.TheVariants as item
-use Rattle.diagram.specs.declared.compare.Comparison.TheVariants as compare
 
 -- A text with a fault is answered by it: "the first faulty line decides".
 pub verdict_fault : (c : Capacity) (text : Bytes) {f : Fault} {line : ℕ} → read_text text ≡ fault f line
-    → ruling_on indices c text ≡ No f line
+    → ruling_on indices c text ≡ no_at f line
 unfolding ruling_on ruling_of_reading
 verdict_fault c text e = rw e
 
@@ -53,11 +51,9 @@ abbrev EarlyReading : Reading → Type 0
 EarlyReading (lists n gs hs) = Unit
 EarlyReading (fault f line) = Early f
 
-abbrev EarlyRuling : Ruling → Type 0
-EarlyRuling Same = Unit
-EarlyRuling (Factor f) = Unit
-EarlyRuling Differ = Unit
-EarlyRuling (No f line) = Early f
+abbrev EarlyRuling : Result Ruling FaultAt → Type 0
+EarlyRuling (Ok r) = Unit
+EarlyRuling (Err at) = Early at.fault
 
 ensured_early : (test : Bool) (f : Fault) (next : Result Item Fault) → Early f → EarlyItem next
     → EarlyItem (ensured test f next)
@@ -136,14 +132,9 @@ reading_early text = by_lines (lines text)
 pub verdict_never_full : (text : Bytes) → NotFull unlimited text
 verdict_never_full text line q = go (read_text text) refl (reading_early text)
   where
-    judged_early : {d : ℕ} {T U : Tensor d} {r : Ruling} → GoodTextRuling unlimited T U r → EarlyRuling r
+    judged_early : {d : ℕ} {T U : Tensor d} {r : Result Ruling FaultAt} → GoodTextRuling unlimited T U r → EarlyRuling r
     judged_early (was_full line l) = absurd l
-    judged_early {T = T} {U} was_compared = by_comparison (compared T U)
-      where
-        by_comparison : (x : Comparison) → EarlyRuling (ruling_of_answer (comparison x))
-        by_comparison compare.Same = tt
-        by_comparison (compare.Factor f) = tt
-        by_comparison compare.Differ = tt
+    judged_early was_compared = tt
 
     go : (r : Reading) → read_text text ≡ r → EarlyReading r → ⊥
     go (lists n gs hs) e h = subst EarlyRuling q (judged_early (ruling_judged unlimited text e))

@@ -18,7 +18,6 @@ use Rattle.diagram.specs.declared.gate.Gate.{Gate}
 use Rattle.text.specs.declared.call.Call.{Call}
 use Rattle.text.specs.declared.call.Refusal.{Refusal}
 use Rattle.text.specs.declared.check.Item.TheVariants as item
-use Rattle.text.specs.declared.answer.Answer.TheVariants as answers
 
 -- Reading the lines ls, the first of which has the number `at`: k of them and the gates' lines are there; or a fault
 -- is at one of them or the next
@@ -115,13 +114,8 @@ module _ {d : ℕ} (c : Capacity) (m line : ℕ) (r : Refusal) where
       → ((t : Tally d) → f t ≡ refused_at line r → line ≤ m)
       → continue_with l y f ≡ refused_at line r → line ≤ m
   unfolding continue_with
-  continue_most l p (answers.Ok n, t) f h e = h t e
-  continue_most l p (answers.No x, t) f h e = let z : l ≡ line = cc in omega arith
-  continue_most l p (answers.Value w, t) f h e = h t e
-  continue_most l p (answers.Same, t) f h e = h t e
-  continue_most l p (answers.Factor w, t) f h e = h t e
-  continue_most l p (answers.Differ, t) f h e = h t e
-  continue_most l p (answers.Mask m, t) f h e = h t e
+  continue_most l p (Ok a, t) f h e = h t e
+  continue_most l p (Err x, t) f h e = let z : l ≡ line = cc in omega arith
 
   perform_most : (xs : List NumberedCall) → AllMost m xs → (t : Tally d) → perform c xs t ≡ refused_at line r → line ≤ m
   unfolding perform

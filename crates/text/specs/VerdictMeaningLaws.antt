@@ -1,5 +1,5 @@
 -- The sentences of VerdictMeaning hold of every good text.
-use Rattle.std.specs.Prelude.{◌≡◌, refl, ◌≢◌, ◌⊎◌, ◌↔◌, List, ℕ, ◌<◌, ◌*◌, ◌≤◌}
+use Rattle.std.specs.Prelude.{◌≡◌, refl, ◌≢◌, ◌⊎◌, ◌↔◌, List, ℕ, ◌<◌, ◌*◌, ◌≤◌, Result, Ok, Err}
 use Rattle.std.proofs.Common.{ap, sym, ◌∙◌, subst, inl, inr, arith}
 use Rattle.std.proofs.Math.Logic.Iff as Iff
 use Rattle.diagram.specs.Weights.{modulus, Weight, to_weight}
@@ -16,9 +16,10 @@ use Rattle.diagram.specs.CompareLaws.{compared_same, compared_factor, compared_d
 use Rattle.diagram.specs.TallyValueLaws.{agree_exactly, scale_value}
 use Rattle.diagram.specs.Gate.{unit_tensor}
 use Rattle.text.specs.Text.{Bytes}
-use Rattle.text.specs.Session.{comparison, Capacity, answer, empty_tally}
+use Rattle.text.specs.Session.{comparison, Capacity, empty_tally}
 use Rattle.text.specs.Check.{lists, read_text, AllPlaced, GoodLists}
 use Rattle.text.specs.Qubits.{AllFit}
+use Rattle.text.specs.Ruling.{no_at}
 use Rattle.text.specs.VerdictSession.{ruling_of_answer, PerformResult, refused_at, ruling_at_end, session_calls}
 use Rattle.text.specs.VerdictSession.{perform, ruling_of_reading, ruling_on}
 use Rattle.text.specs.Product.{list_matrix}
@@ -26,17 +27,16 @@ use Rattle.text.specs.VerdictMeaning.{Meaning, IsTimes, NotFull, VerdictMeans, M
 use Rattle.text.specs.Apply.{applied_list}
 use Rattle.text.specs.Runs.{RegisterList, AllCallsRun, full, end, GoodTextRuling, was_full, was_compared}
 use Rattle.text.specs.QubitsLaws.{placed_fit}
+use Rattle.text.specs.RulingLaws.{no_at_same}
 use Rattle.text.specs.VerdictSessionLaws.{session_runs, list_tensor_lem, good_lists, ruling_judged}
 use Rattle.text.specs.ProductLaws.{lists_same, lists_multiple}
 use Rattle.text.specs.declared.ruling.Ruling.{Ruling}
-use Rattle.text.specs.declared.ruling.Ruling.TheVariants.{Same, Factor, Differ, No}
+use Rattle.text.specs.declared.ruling.Ruling.TheVariants.{Same, Factor, Differ}
+use Rattle.text.specs.declared.check.FaultAt.{FaultAt}
 use Rattle.diagram.specs.declared.compare.Comparison.{Comparison}
-use Rattle.text.specs.declared.answer.Answer.{Answer}
 use Rattle.text.specs.declared.check.Fault.{Fault}
 use Rattle.diagram.specs.declared.gate.Gate.{Gate}
 use Rattle.diagram.specs.declared.compare.Comparison.TheVariants as compare
-use Rattle.text.specs.declared.answer.Answer.TheVariants as answers
-use Rattle.text.specs.declared.call.Call.TheVariants as call
 use Rattle.text.specs.declared.call.Refusal.TheVariants as refusal
 use Rattle.text.specs.declared.check.Fault.TheVariants as faults
 
@@ -70,19 +70,19 @@ scaled_one {A = A} {B} n s q = n (s.is ∙ ap (λ w. scale w B) (ap to_weight q 
 -- What a ruling says: E that the two are equal, M f that the first is f times the second, N f that the second is f
 -- times the first
 
-abbrev RulingMeans : Type 0 → (ℕ → Type 0) → (ℕ → Type 0) → Ruling → Type 0
-RulingMeans E M N Same = E
-RulingMeans E M N (Factor f) = (¬ E) × (f ≢ 1) × M f
-RulingMeans E M N Differ = (¬ E) × (¬ ((f : ℕ) × (M f ⊎ N f)))
-RulingMeans E M N (No f line) = ⊥
+abbrev RulingMeans : Type 0 → (ℕ → Type 0) → (ℕ → Type 0) → Result Ruling FaultAt → Type 0
+RulingMeans E M N (Ok Same) = E
+RulingMeans E M N (Ok (Factor f)) = (¬ E) × (f ≢ 1) × M f
+RulingMeans E M N (Ok Differ) = (¬ E) × (¬ ((f : ℕ) × (M f ⊎ N f)))
+RulingMeans E M N (Err at) = ⊥
 
-abbrev TensorsMean : {d : ℕ} → Tensor d → Tensor d → Ruling → Type 0
+abbrev TensorsMean : {d : ℕ} → Tensor d → Tensor d → Result Ruling FaultAt → Type 0
 TensorsMean A B r = Meaning r (A ≡ B) (λ f. Scaled f A B) (λ f. Scaled f B A)
 
 -- comparing two tensors
 module _ {d : ℕ} (A B : Tensor d) where
-  abbrev compared_ruling : Comparison → Ruling
-  compared_ruling x = ruling_of_answer (comparison x)
+  abbrev compared_ruling : Comparison → Result Ruling FaultAt
+  compared_ruling x = Ok (ruling_of_answer (Ok (comparison x)))
 
   ruling_means : (x : Comparison) → ComparisonMeans A B x
       → RulingMeans (A ≡ B) (λ f. Scaled f A B) (λ f. Scaled f B A) (compared_ruling x)
@@ -103,35 +103,35 @@ module _ {d : ℕ} (A B : Tensor d) where
       apart (f, inl s) = alone f s
       apart (f, inr s) = alone _ (scaled_back s)
 
-  is_factor : (f : ℕ) → A ≢ B → Scaled f A B → compared_ruling (compared A B) ≡ Factor f
+  is_factor : (f : ℕ) → A ≢ B → Scaled f A B → compared_ruling (compared A B) ≡ Ok (Factor f)
   is_factor f n s =
       ap compared_ruling (compared_factor A B (to_weight f) n (scaled_nonzero s) s.is)
-      ∙ ap Factor (number_weight f s.weight)
+      ∙ ap (λ n. Ok (Factor n)) (number_weight f s.weight)
 
   tells_compared : TensorsMean A B (compared_ruling (compared A B))
   tells_compared = record {
-    same = (tensors_mean Same, λ e. ap compared_ruling (compared_same A B e));
+    same = (tensors_mean (Ok Same), λ e. ap compared_ruling (compared_same A B e));
     factor = (
-      λ p. let s = tensors_mean (Factor p.0) p.1 in (s.0, (p.0, inl s.2)),
+      λ p. let s = tensors_mean (Ok (Factor p.0)) p.1 in (s.0, (p.0, inl s.2)),
       λ p. some_factor p.0 p.1,
     );
     differ = (
-      tensors_mean Differ,
+      tensors_mean (Ok Differ),
       λ p. ap compared_ruling (compared_differ A B (record
           { differ = p.0; multiple = λ f z e. p.1 (f.number, inl (scaled_weight f A B z e)) })),
     );
-    no_other = λ f line. tensors_mean (No f line);
-    factor_of = λ f. (tensors_mean (Factor f), λ p. is_factor f p.0 p.2);
+    no_other = λ f line. tensors_mean (no_at f line);
+    factor_of = λ f. (tensors_mean (Ok (Factor f)), λ p. is_factor f p.0 p.2);
   }
     where
-      tensors_mean : (r : Ruling) → compared_ruling (compared A B) ≡ r → RulingMeans (A ≡ B) (λ f. Scaled f A B)
+      tensors_mean : (r : Result Ruling FaultAt) → compared_ruling (compared A B) ≡ r → RulingMeans (A ≡ B) (λ f. Scaled f A B)
           (λ f. Scaled f B A) r
       tensors_mean r e =
           subst (RulingMeans (A ≡ B) (λ f. Scaled f A B) (λ f. Scaled f B A)) e
           (ruling_means (compared A B) (compared_means A B))
 
       some_factor : A ≢ B → (f : ℕ) × (Scaled f A B ⊎ Scaled f B A)
-          → (f : ℕ) × (compared_ruling (compared A B) ≡ Factor f)
+          → (f : ℕ) × (compared_ruling (compared A B) ≡ Ok (Factor f))
       some_factor n (f, inl s) = (f, is_factor f n s)
       some_factor n (f, inr s) = (_, is_factor _ n (scaled_back s))
 
@@ -142,7 +142,7 @@ either : {M M' N N' : ℕ → Type 0} → ((f : ℕ) → M f → M' f) → ((f :
 either m n (f, inl x) = (f, inl (m f x))
 either m n (f, inr x) = (f, inr (n f x))
 
-meaning_carry : {r : Ruling} {E E' : Type 0} {M M' N N' : ℕ → Type 0} → E ↔ E' → ((f : ℕ) → M f ↔ M' f)
+meaning_carry : {r : Result Ruling FaultAt} {E E' : Type 0} {M M' N N' : ℕ → Type 0} → E ↔ E' → ((f : ℕ) → M f ↔ M' f)
     → ((f : ℕ) → N f ↔ N' f)
     → Meaning r E M N → Meaning r E' M' N'
 meaning_carry {M = M} {M'} {N} {N'} e m n t =
@@ -178,25 +178,16 @@ scaled_values A B f = (
 
 -- what is refused in a verdict's session is refused as full, and the ruling says so
 
-ruling_not_no : (a : Answer) (f : Fault) (line : ℕ) → ruling_of_answer a ≢ No f line
-ruling_not_no answers.Same f line e = let z : ◌≡◌ {A = ℕ} 0 1 = cc in omega arith
-ruling_not_no (answers.Factor g) f line e = let z : ◌≡◌ {A = ℕ} 0 1 = cc in omega arith
-ruling_not_no answers.Differ f line e = let z : ◌≡◌ {A = ℕ} 0 1 = cc in omega arith
-ruling_not_no (answers.Ok k) f line e = let z : ◌≡◌ {A = ℕ} 0 1 = cc in omega arith
-ruling_not_no (answers.No r) f line e = let z : ◌≡◌ {A = ℕ} 0 1 = cc in omega arith
-ruling_not_no (answers.Value w) f line e = let z : ◌≡◌ {A = ℕ} 0 1 = cc in omega arith
-ruling_not_no (answers.Mask m) f line e = let z : ◌≡◌ {A = ℕ} 0 1 = cc in omega arith
-
 ruling_full : {d : ℕ} (c : Capacity) {P : RegisterList d → Type 0} {x : PerformResult d} → AllCallsRun c P x
     → (f : Fault) (line : ℕ)
-    → (ruling_at_end c x ≡ No f line) ↔ ((f ≡ faults.Full) × (x ≡ refused_at line refusal.Full))
+    → (ruling_at_end c x ≡ no_at f line) ↔ ((f ≡ faults.Full) × (x ≡ refused_at line refusal.Full))
 unfolding ruling_at_end
 ruling_full c (full {line = l} h) f line = (
-  λ e. (let z : f ≡ faults.Full = cc in z, let z : l ≡ line = cc in rw z),
+  λ e. let same = no_at_same e in (sym same.0, rw same.1),
   λ p. rw p.0 (let z : l ≡ line = cc in rw z),
 )
 ruling_full c (end {t = t} h) f line = (
-  λ e. absurd (ruling_not_no (answer c (call.Cmp 0 1) t).0 f line e),
+  λ e. absurd (let z : ◌≡◌ {A = ℕ} 0 1 = cc in omega arith),
   λ p. absurd (let q = p.1 in let z : ◌≡◌ {A = ℕ} 0 1 = cc in omega arith),
 )
 
@@ -214,7 +205,7 @@ module _ (c : Capacity) (text : Bytes) {n : ℕ} {gs hs : List Gate} (e : read_t
 
   -- a good text is refused exactly where a call of its session is refused as full, at that call's line
   pub verdict_refused : (f : Fault) (line : ℕ)
-      → (ruling_on indices c text ≡ No f line)
+      → (ruling_on indices c text ≡ no_at f line)
       ↔ ((f ≡ faults.Full)
       × (perform {d = indices} c (session_calls n gs hs) empty_tally ≡ refused_at line refusal.Full))
   unfolding ruling_on ruling_of_reading
@@ -224,8 +215,8 @@ module _ (c : Capacity) (text : Bytes) {n : ℕ} {gs hs : List Gate} (e : read_t
   tells_verdict : NotFull c text → TensorsMean (list_tensor_of gs) (list_tensor_of hs) (ruling_on indices c text)
   tells_verdict h = go (ruling_judged c text e) h
     where
-      go : {r : Ruling} → GoodTextRuling c (list_tensor_of gs) (list_tensor_of hs) r
-          → ((line : ℕ) → r ≢ No faults.Full line)
+      go : {r : Result Ruling FaultAt} → GoodTextRuling c (list_tensor_of gs) (list_tensor_of hs) r
+          → ((line : ℕ) → r ≢ no_at faults.Full line)
           → TensorsMean (list_tensor_of gs) (list_tensor_of hs) r
       go (was_full line l) h = absurd (h line refl)
       go was_compared h = tells_compared (list_tensor_of gs) (list_tensor_of hs)

@@ -1,5 +1,5 @@
 -- What the code's verdict leaves in the output.
-use Rattle.std.specs.Prelude.{◌≡◌, refl, ◌++◌, List, ◌≢◌, ◌↔◌, ◌+◌, ℕ, ◌≤◌, ◌<◌, length, drop, take}
+use Rattle.std.specs.Prelude.{◌≡◌, refl, ◌++◌, List, ◌≢◌, ◌↔◌, ◌+◌, ℕ, ◌≤◌, ◌<◌, length, drop, take, Ok}
 use Rattle.std.proofs.Common.{ap, ◌∙◌, sym, inl, inr, arith, le-ltb}
 use Rattle.std.proofs.Math.Seq.{take-append_seam, drop-append_seam}
 use Rattle.diagram.specs.Weights.{modulus}
@@ -10,11 +10,12 @@ use Rattle.text.specs.Limits.{verdict_room}
 use Rattle.text.specs.Print.{written}
 use Rattle.text.specs.Session.{at_most, Capacity, empty_tally}
 use Rattle.text.specs.Check.{Reading, lists, fault, read_text}
-use Rattle.text.specs.Ruling.{printed_ruling}
+use Rattle.text.specs.Ruling.{printed_ruling, no_at}
 use Rattle.text.specs.VerdictSession.{ruling_on, verdict_result, session_calls, perform, refused_at}
 use Rattle.text.specs.VerdictMeaning.{NotFull}
 use Rattle.text.specs.VerdictBytes.{RefusedAt}
 use Rattle.text.specs.Judge.{VerdictEnsures}
+use Rattle.text.specs.RulingLaws.{no_at_same}
 use Rattle.text.specs.VerdictMeaningLaws.{verdict_means, verdict_refused}
 use Rattle.text.specs.VerdictFaultLaws.{verdict_fault}
 use Rattle.text.specs.VerdictLineLaws.{fault_line, full_line}
@@ -22,7 +23,7 @@ use Rattle.text.specs.declared.ruling.VerdictResult.{VerdictResult}
 use Rattle.diagram.specs.declared.gate.Gate.{Gate}
 use Rattle.text.specs.declared.check.Fault.{Fault}
 use Rattle.text.specs.declared.check.Fault.TheVariants.{Full}
-use Rattle.text.specs.declared.ruling.Ruling.TheVariants.{Factor, No}
+use Rattle.text.specs.declared.ruling.Ruling.TheVariants.{Factor}
 use Rattle.text.specs.declared.call.Refusal.TheVariants as refusal
 
 -- What is written, from `VerdictEnsures`.
@@ -64,20 +65,18 @@ module _ (c : Capacity) (text : Bytes) where
       → NotFull c text
   not_full e h line q = h line ((verdict_refused c text e Full line).0 q).1
 
-  pub refused_at_lem : (f : Fault) (line : ℕ) → (ruling_on indices c text ≡ No f line) ↔ RefusedAt c text f line
+  pub refused_at_lem : (f : Fault) (line : ℕ) → (ruling_on indices c text ≡ no_at f line) ↔ RefusedAt c text f line
   refused_at_lem f line = (λ q. to q (read_text text) refl, from)
     where
-      to : ruling_on indices c text ≡ No f line → (x : Reading) → read_text text ≡ x → RefusedAt c text f line
+      to : ruling_on indices c text ≡ no_at f line → (x : Reading) → read_text text ≡ x → RefusedAt c text f line
       to q (lists n gs hs) e =
           let p = (verdict_refused c text e f line).0 q in
           inr (p.0, record { n = n; gs = gs; hs = hs; good = e; full = p.1 })
       to q (fault g l) e =
-          let z : No g l ≡ No f line = sym (verdict_fault c text e) ∙ q in
-          let p : g ≡ f = cc in
-          let l' : l ≡ line = cc in
-          inl (rw (← p, ← l') e)
+          let same = no_at_same (sym (verdict_fault c text e) ∙ q) in
+          inl (rw (← same.0, ← same.1) e)
 
-      from : RefusedAt c text f line → ruling_on indices c text ≡ No f line
+      from : RefusedAt c text f line → ruling_on indices c text ≡ no_at f line
       from (inl e) = verdict_fault c text e
       from (inr (z, a)) = (verdict_refused c text a.good f line).1 (z, a.full)
 
@@ -86,11 +85,11 @@ module _ (c : Capacity) (text : Bytes) where
   line_most f line (inr (z, a)) = omega (arith, full_line {d = indices} c text a.good a.full)
 
   -- a factor is a weight
-  pub factor_small : (f : ℕ) → ruling_on indices c text ≡ Factor f → f < modulus
+  pub factor_small : (f : ℕ) → ruling_on indices c text ≡ Ok (Factor f) → f < modulus
   factor_small f q = go (read_text text) refl
     where
-      no_refusal : (g : Fault) (line : ℕ) → ruling_on indices c text ≢ No g line
-      no_refusal g line p = let z : Factor f ≡ No g line = sym q ∙ p in let o : ◌≡◌ {A = ℕ} 0 1 = cc in omega arith
+      no_refusal : (g : Fault) (line : ℕ) → ruling_on indices c text ≢ no_at g line
+      no_refusal g line p = let z : Ok (Factor f) ≡ no_at g line = sym q ∙ p in let o : ◌≡◌ {A = ℕ} 0 1 = cc in omega arith
 
       go : (x : Reading) → read_text text ≡ x → f < modulus
       go (lists n gs hs) e = (((verdict_means c text e (no_refusal Full)).factor_of f).0 q).2.weight

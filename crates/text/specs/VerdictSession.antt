@@ -1,19 +1,20 @@
 -- Verdicts (document 01, "Verdicts"): the session that a text stands for, and the answer.
-use Rattle.std.specs.Prelude.{List, [], ◌∷◌, ◌++◌, cond, ℕ, ◌+◌, ◌*◌, length, get_or, ltb}
+use Rattle.std.specs.Prelude.{List, [], ◌∷◌, ◌++◌, cond, ℕ, ◌+◌, ◌*◌, length, get_or, ltb, Result, Ok, Err}
 use Rattle.std.proofs.Math.Option.{Option, none}
 use Rattle.diagram.specs.Tensor.{Tensor}
 use Rattle.text.specs.Text.{Bytes}
 use Rattle.text.specs.Limits.{verdict_room}
 use Rattle.text.specs.Session.{Tally, TallyReply, Capacity, answer, unlimited, empty_tally}
 use Rattle.text.specs.Check.{Reading, lists, fault, read_text}
-use Rattle.text.specs.Ruling.{printed_ruling}
+use Rattle.text.specs.Ruling.{printed_ruling, no_at}
 use Rattle.text.specs.Qubits.{qubits, middles}
 use Rattle.text.specs.declared.call.Call.{Call}
 use Rattle.diagram.specs.declared.gate.Gate.{Gate}
 use Rattle.text.specs.declared.call.Refusal.{Refusal}
 use Rattle.text.specs.declared.answer.Answer.{Answer}
 use Rattle.text.specs.declared.ruling.Ruling.{Ruling}
-use Rattle.text.specs.declared.ruling.Ruling.TheVariants.{Same, Factor, Differ, No}
+use Rattle.text.specs.declared.ruling.Ruling.TheVariants.{Same, Factor, Differ}
+use Rattle.text.specs.declared.check.FaultAt.{FaultAt}
 use Rattle.text.specs.declared.check.Fault.TheVariants.{Full}
 use Rattle.text.specs.declared.call.Call.TheVariants as call
 use Rattle.text.specs.declared.answer.Answer.TheVariants as answers
@@ -55,13 +56,8 @@ pub data PerformResult (d : ℕ) : Type 0 where
   ended_with : Tally d → PerformResult d
 
 unfoldable pub continue_with : {d : ℕ} → ℕ → TallyReply d → (Tally d → PerformResult d) → PerformResult d
-continue_with line (answers.Ok n, t) f = f t
-continue_with line (answers.No r, t) f = refused_at line r
-continue_with line (answers.Value w, t) f = f t
-continue_with line (answers.Same, t) f = f t
-continue_with line (answers.Factor w, t) f = f t
-continue_with line (answers.Differ, t) f = f t
-continue_with line (answers.Mask m, t) f = f t
+continue_with line (Ok a, t) f = f t
+continue_with line (Err r, t) f = refused_at line r
 
 unfoldable pub perform : {d : ℕ} → Capacity → List NumberedCall → Tally d → PerformResult d
 perform c [] t = ended_with t
@@ -78,26 +74,26 @@ list_tensor d n gs = register_tensor 0 (perform unlimited (list_calls 0 n 1 gs) 
 
 -- "then `cmp 0 1`": what its answer says. Its last four cases do not come: `cmp` is asked of filled registers
 -- (ruling_judged in VerdictSessionLaws).
-abbrev pub ruling_of_answer : Answer → Ruling
-ruling_of_answer answers.Same = Same
-ruling_of_answer (answers.Factor f) = Factor f
-ruling_of_answer answers.Differ = Differ
-ruling_of_answer (answers.Ok n) = Differ
-ruling_of_answer (answers.No r) = Differ
-ruling_of_answer (answers.Value w) = Differ
-ruling_of_answer (answers.Mask m) = Differ
+abbrev pub ruling_of_answer : Result Answer Refusal → Ruling
+ruling_of_answer (Ok answers.Same) = Same
+ruling_of_answer (Ok (answers.Factor f)) = Factor f
+ruling_of_answer (Ok answers.Differ) = Differ
+ruling_of_answer (Ok (answers.Done n)) = Differ
+ruling_of_answer (Err r) = Differ
+ruling_of_answer (Ok (answers.Value w)) = Differ
+ruling_of_answer (Ok (answers.Mask m)) = Differ
 
 -- "8 full, at the line being run". No other refusal comes (session_runs in VerdictSessionLaws).
-unfoldable pub ruling_at_end : {d : ℕ} → Capacity → PerformResult d → Ruling
-ruling_at_end c (refused_at line r) = No Full line
-ruling_at_end c (ended_with t) = ruling_of_answer (answer c (call.Cmp 0 1) t).0
+unfoldable pub ruling_at_end : {d : ℕ} → Capacity → PerformResult d → Result Ruling FaultAt
+ruling_at_end c (refused_at line r) = no_at Full line
+ruling_at_end c (ended_with t) = Ok (ruling_of_answer (answer c (call.Cmp 0 1) t).0)
 
 -- "All lines are read before any gate runs; the first faulty line decides."
-unfoldable pub ruling_of_reading : (d : ℕ) → Capacity → Reading → Ruling
-ruling_of_reading d c (fault f line) = No f line
+unfoldable pub ruling_of_reading : (d : ℕ) → Capacity → Reading → Result Ruling FaultAt
+ruling_of_reading d c (fault f line) = no_at f line
 ruling_of_reading d c (lists n gs hs) = ruling_at_end {d = d} c (perform c (session_calls n gs hs) empty_tally)
 
-unfoldable pub ruling_on : (d : ℕ) → Capacity → Bytes → Ruling
+unfoldable pub ruling_on : (d : ℕ) → Capacity → Bytes → Result Ruling FaultAt
 ruling_on d c text = ruling_of_reading d c (read_text text)
 
 -- "Fewer than 32 output bytes returns 9 and writes nothing, before any reading; otherwise the code is 0, also with

@@ -1,5 +1,5 @@
 // A session's answers, and their printed bytes.
-ghost use Rattle.std.specs.Prelude.{◌≡◌, ◌+◌, ◌≤◌, ◌<◌, length};
+ghost use Rattle.std.specs.Prelude.{◌≡◌, ◌+◌, ◌≤◌, ◌<◌, length, Ok, Err};
 ghost use Rattle.text.specs.Limits.{answer_room, last_mask};
 ghost use Rattle.text.specs.Answer.{printed, SmallAnswer, AnswerWritten, labelled_line};
 ghost use Rattle.text.specs.Print.{WriteEnsures};
@@ -9,11 +9,10 @@ use crate::limits::{Mask, Weight};
 use crate::print;
 use diagram::node::NodeCount;
 
-// What a line is answered. In document 01 a refusal is one of the answers, so it stands among them, not in a `Result`.
+// What a line is answered that is not refused; `Done` is printed as `ok`.
 #[derive(Clone, Copy)]
 pub enum Answer {
-    Ok(NodeCount),
-    No(Refusal),
+    Done(NodeCount),
     Value(Weight),
     Same,
     Factor(Weight),
@@ -32,12 +31,11 @@ fn pair(out: &mut [u8], at: usize, word: &[u8], n: usize) -> usize
 
 #[tactic(auto, unfolding(crate::specs::Answer::printed, crate::specs::Answer::line_of_fields))]
 fn put(out: &mut [u8], at: usize, answer: Answer) -> usize
-    requires { (at + answer_room ≤ length out.old) × SmallAnswer answer }
-    ensures { WriteEnsures out.old at (printed answer) out.new result }
+    requires { (at + answer_room ≤ length out.old) × SmallAnswer (Ok answer) }
+    ensures { WriteEnsures out.old at (printed (Ok answer)) out.new result }
 {
     match answer {
-        Answer::Ok(n) => pair(out, at, b"ok\t", n),
-        Answer::No(r) => pair(out, at, b"no\t", r.number()),
+        Answer::Done(n) => pair(out, at, b"ok\t", n),
         Answer::Value(w) => pair(out, at, b"v\t", w),
         Answer::Same => print::put_bytes(out, at, b"same\n"),
         Answer::Factor(f) => pair(out, at, b"factor\t", f),
@@ -46,10 +44,21 @@ fn put(out: &mut [u8], at: usize, answer: Answer) -> usize
     }
 }
 
-// Writes an answer at a place, and answers the place after it.
-pub(crate) fn write(out: &mut [u8], at: usize, answer: Answer) -> usize
+#[tactic(auto, unfolding(crate::specs::Answer::printed, crate::specs::Answer::line_of_fields))]
+fn put_refusal(out: &mut [u8], at: usize, why: Refusal) -> usize
+    requires { at + answer_room ≤ length out.old }
+    ensures { WriteEnsures out.old at (printed (Err why)) out.new result }
+{
+    pair(out, at, b"no\t", why.number())
+}
+
+// Writes an answer or a refusal at a place, and answers the place after it.
+pub(crate) fn write(out: &mut [u8], at: usize, answer: Result<Answer, Refusal>) -> usize
     requires { (at + answer_room ≤ length out.old) × SmallAnswer answer }
     ensures { AnswerWritten out.old at answer out.new result }
 {
-    put(out, at, answer)
+    match answer {
+        Ok(answer) => put(out, at, answer),
+        Err(why) => put_refusal(out, at, why),
+    }
 }

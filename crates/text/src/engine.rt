@@ -30,13 +30,13 @@ impl<'b, 'a> Engine<'b, 'a> {
     }
 
     // 8: the nodes as before the call, and nothing that it remembered is used.
-    fn refuse_full(&mut self, before: State) -> Answer
+    fn refuse_full(&mut self, before: State) -> Refusal
         requires { RollbackRequires self.old.diagram.now.cache.now self.old.diagram.now.store.now before }
         ensures loans { KeepsEngine self.old self.new }
         ensures refuses { RefusesFull self.old self.new before result }
     {
         self.diagram.rollback(before);
-        Answer::No(Refusal::Full)
+        Refusal::Full
     }
 
     // "Register d is set last": to the edge of a step that was done; or the step did not fit. The state is that before
@@ -46,15 +46,15 @@ impl<'b, 'a> Engine<'b, 'a> {
         before: State,
         d: RegisterNumber,
         step: Result<Edge, Full>,
-    ) -> Answer
+    ) -> Result<Answer, Refusal>
         requires { MaySettle self.old before step × (d < register_count) }
         ensures loans { KeepsEngine self.old self.new }
         ensures settles { Settles self.old self.new before d step result }
     {
         let Ok(e) = step else {
-            return self.refuse_full(before);
+            return Err(self.refuse_full(before));
         };
         self.registers.put(d, e);
-        Answer::Ok(self.diagram.state.count)
+        Ok(Answer::Done(self.diagram.state.count))
     }
 }

@@ -8,7 +8,8 @@ ghost use Rattle.text.specs.VerdictSession.{ruling_of_answer};
 ghost use Rattle.text.specs.Judge.{JudgesSecond, JudgeEnsures, VerdictEnsures};
 
 use crate::answer::Answer;
-use crate::check::Fault;
+use crate::call::Refusal;
+use crate::check::{Fault, FaultAt};
 use crate::engine::Engine;
 use crate::limits::{LineNumber, VERDICT_ROOM};
 use crate::list::Lists;
@@ -18,30 +19,29 @@ use diagram::diagram::Diagram;
 use diagram::gate::QubitCount;
 use diagram::registers::Registers;
 
-fn ruling_of(answer: Answer) -> Ruling
+fn ruling_of(answer: Result<Answer, Refusal>) -> Ruling
     ensures { result ≡ ruling_of_answer answer }
 {
     match answer {
-        Answer::Ok(_) => Ruling::Differ,
-        Answer::No(_) => Ruling::Differ,
-        Answer::Value(_) => Ruling::Differ,
-        Answer::Same => Ruling::Same,
-        Answer::Factor(f) => Ruling::Factor(f),
-        Answer::Differ => Ruling::Differ,
-        Answer::Mask(_) => Ruling::Differ,
+        Ok(Answer::Same) => Ruling::Same,
+        Ok(Answer::Factor(f)) => Ruling::Factor(f),
+        Ok(Answer::Differ) => Ruling::Differ,
+        _ => Ruling::Differ,
     }
 }
 
 // The second list, from the line `=` on, and "then `cmp 0 1`".
-fn second(lists: &mut Lists, count: usize) -> Ruling
+fn second(lists: &mut Lists, count: usize) -> Result<Ruling, FaultAt>
     requires { IsLists lists.old × (ListAhead lists.old 1 count ×
         ((1 ≤ lists.old.qubits) × (lists.old.qubits ≤ most_qubits))) }
     ensures { JudgesSecond lists.old count result }
 {
-    if lists.run(1, count).is_err() {
-        return Ruling::No(Fault::Full, lists.line);
-    }
-    ruling_of(lists.engine.cmp(0, 1))
+    // "8 full, at the line being run"
+    lists.run(1, count).or(Err(FaultAt {
+        fault: Fault::Full,
+        line: lists.line,
+    }))?;
+    Ok(ruling_of(lists.engine.cmp(0, 1)))
 }
 
 // Both lists of a good text, whose `=` is at the line `parting`, of `count` lines.
@@ -52,7 +52,7 @@ fn run(
     n: QubitCount,
     parting: LineNumber,
     count: usize,
-) -> Ruling
+) -> Result<Ruling, FaultAt>
     requires { GoodText text.now n parting count × ((1 ≤ n) × (n ≤ most_qubits)) }
     ensures { JudgeEnsures text.now store.old result }
 {
@@ -69,20 +69,19 @@ fn run(
         place: 0,
         engine,
     };
-    if lists.run(0, parting - 2).is_err() {
-        return Ruling::No(Fault::Full, lists.line);
-    }
+    lists.run(0, parting - 2).or(Err(FaultAt {
+        fault: Fault::Full,
+        line: lists.line,
+    }))?;
     second(&mut lists, count - parting)
 }
 
 // "All lines are read before any gate runs; the first faulty line decides."
-fn judge(text: &[u8], store: &mut [u8], cache: &mut [u64]) -> Ruling
+fn judge(text: &[u8], store: &mut [u8], cache: &mut [u64]) -> Result<Ruling, FaultAt>
     ensures { JudgeEnsures text.now store.old result }
 {
-    match check::check(text) {
-        Err(f) => Ruling::No(f.fault, f.line),
-        Ok(good) => run(text, store, cache, good.n, good.parting, good.count),
-    }
+    let good = check::check(text)?;
+    run(text, store, cache, good.n, good.parting, good.count)
 }
 
 // "Fewer than 32 output bytes returns 9 and writes nothing, before any reading; otherwise the code is 0, also with

@@ -23,7 +23,7 @@ use diagram::node::{Edge, Index};
 use diagram::registers::RegisterNumber;
 
 impl<'b, 'a> Engine<'b, 'a> {
-    pub(crate) fn put(&mut self, d: RegisterNumber, w: Weight) -> Answer
+    pub(crate) fn put(&mut self, d: RegisterNumber, w: Weight) -> Result<Answer, Refusal>
         requires { IsEngine self.old × InRange (call.Put d w) }
         ensures loans { KeepsEngine self.old self.new }
         ensures responds { Responds self.old self.new (call.Put d w) result }
@@ -33,7 +33,7 @@ impl<'b, 'a> Engine<'b, 'a> {
         self.settle(before, d, Ok(Edge { weight, node: 0 }))
     }
 
-    pub(crate) fn gate(&mut self, d: RegisterNumber, g: Gate) -> Answer
+    pub(crate) fn gate(&mut self, d: RegisterNumber, g: Gate) -> Result<Answer, Refusal>
         requires { IsEngine self.old × InRange (call.Gate d g) }
         ensures loans { KeepsEngine self.old self.new }
         ensures responds { Responds self.old self.new (call.Gate d g) result }
@@ -43,7 +43,7 @@ impl<'b, 'a> Engine<'b, 'a> {
         self.settle(before, d, step)
     }
 
-    pub(crate) fn unit(&mut self, d: RegisterNumber, n: QubitCount) -> Answer
+    pub(crate) fn unit(&mut self, d: RegisterNumber, n: QubitCount) -> Result<Answer, Refusal>
         requires { IsEngine self.old × InRange (call.Unit d n) }
         ensures loans { KeepsEngine self.old self.new }
         ensures responds { Responds self.old self.new (call.Unit d n) result }
@@ -53,7 +53,7 @@ impl<'b, 'a> Engine<'b, 'a> {
         self.settle(before, d, step)
     }
 
-    pub(crate) fn add(&mut self, d: RegisterNumber, a: Edge, b: Edge) -> Answer
+    pub(crate) fn add(&mut self, d: RegisterNumber, a: Edge, b: Edge) -> Result<Answer, Refusal>
         requires { IsEngine self.old ×
             ((d < register_count) × (IsEdge self.old.diagram.now a × IsEdge self.old.diagram.now b)) }
         ensures loans { KeepsEngine self.old self.new }
@@ -65,7 +65,13 @@ impl<'b, 'a> Engine<'b, 'a> {
         self.settle(before, d, step)
     }
 
-    pub(crate) fn cont(&mut self, d: RegisterNumber, a: Edge, b: Edge, m: Mask) -> Answer
+    pub(crate) fn cont(
+        &mut self,
+        d: RegisterNumber,
+        a: Edge,
+        b: Edge,
+        m: Mask,
+    ) -> Result<Answer, Refusal>
         requires { IsEngine self.old × ((d < register_count) ×
             (IsEdge self.old.diagram.now a × (IsEdge self.old.diagram.now b × (m < masks)))) }
         ensures loans { KeepsEngine self.old self.new }
@@ -79,7 +85,7 @@ impl<'b, 'a> Engine<'b, 'a> {
     }
 
     // Index k is renamed k - 1, in a tensor that does not depend on k - 1.
-    fn lower(&mut self, d: RegisterNumber, a: Edge, k: Index) -> Answer
+    fn lower(&mut self, d: RegisterNumber, a: Edge, k: Index) -> Result<Answer, Refusal>
         requires { IsEngine self.old ×
             ((d < register_count) × (IsEdge self.old.diagram.now a × MayLower self.old.diagram.now a k)) }
         ensures loans { KeepsEngine self.old self.new }
@@ -91,7 +97,7 @@ impl<'b, 'a> Engine<'b, 'a> {
     }
 
     // The same, or 7 where it depends on k - 1.
-    pub(crate) fn low(&mut self, d: RegisterNumber, a: Edge, k: Index) -> Answer
+    pub(crate) fn low(&mut self, d: RegisterNumber, a: Edge, k: Index) -> Result<Answer, Refusal>
         requires { IsEngine self.old ×
             ((d < register_count) × (IsEdge self.old.diagram.now a × ((1 ≤ k) × (k ≤ last_index)))) }
         ensures loans { KeepsEngine self.old self.new }
@@ -99,13 +105,13 @@ impl<'b, 'a> Engine<'b, 'a> {
             (low_of k (tensor self.old.diagram.now a)) result }
     {
         if self.diagram.depends(a, k - 1) {
-            return Answer::No(Refusal::Depends);
+            return Err(Refusal::Depends);
         }
         self.lower(d, a, k)
     }
 
     // The indices of m are renamed to the ones before them, where there is no clash.
-    fn lower_set(&mut self, d: RegisterNumber, a: Edge, m: Mask) -> Answer
+    fn lower_set(&mut self, d: RegisterNumber, a: Edge, m: Mask) -> Result<Answer, Refusal>
         requires { IsEngine self.old ×
             ((d < register_count) × (IsEdge self.old.diagram.now a × MayLowerSet self.old.diagram.now a m)) }
         ensures loans { KeepsEngine self.old self.new }
@@ -118,7 +124,7 @@ impl<'b, 'a> Engine<'b, 'a> {
     }
 
     // The same, or 7 where there is a clash.
-    pub(crate) fn lows(&mut self, d: RegisterNumber, a: Edge, m: Mask) -> Answer
+    pub(crate) fn lows(&mut self, d: RegisterNumber, a: Edge, m: Mask) -> Result<Answer, Refusal>
         requires { IsEngine self.old ×
             ((d < register_count) × (IsEdge self.old.diagram.now a × ((bits m 0 ≡ false) × (m < masks)))) }
         ensures loans { KeepsEngine self.old self.new }
@@ -126,13 +132,13 @@ impl<'b, 'a> Engine<'b, 'a> {
             (lows_of (bits m) (tensor self.old.diagram.now a)) result }
     {
         if self.diagram.clash(a, m as u64) {
-            return Answer::No(Refusal::Depends);
+            return Err(Refusal::Depends);
         }
         self.lower_set(d, a, m)
     }
 
     // The gate g applied to a.
-    pub(crate) fn apply(&mut self, d: RegisterNumber, a: Edge, g: Gate) -> Answer
+    pub(crate) fn apply(&mut self, d: RegisterNumber, a: Edge, g: Gate) -> Result<Answer, Refusal>
         requires { IsEngine self.old ×
             ((d < register_count) × (IsEdge self.old.diagram.now a × Placed most_qubits g)) }
         ensures loans { KeepsEngine self.old self.new }

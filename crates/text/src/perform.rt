@@ -5,23 +5,12 @@ ghost use Rattle.text.specs.Names.{Placed};
 ghost use Rattle.text.specs.Call.{InRange};
 ghost use Rattle.text.specs.VerdictSession.{gate_calls};
 ghost use Rattle.text.specs.Engine.{KeepsEngine, IsEngine};
-ghost use Rattle.text.specs.Perform.{Accepts, Performs, DropsAndCollects};
+ghost use Rattle.text.specs.Perform.{Performs, DropsAndCollects};
 
-use crate::answer::Answer;
 use crate::call::{Call, Refusal};
 use crate::engine::Engine;
 use diagram::gate::Gate;
 use diagram::registers::RegisterNumber;
-
-// The refusal, if the answer is one.
-fn accepted(answer: Answer) -> Result<(), Refusal>
-    ensures { Accepts answer result }
-{
-    match answer {
-        Answer::No(why) => Err(why),
-        _ => Ok(()),
-    }
-}
 
 impl<'b, 'a> Engine<'b, 'a> {
     // One call more.
@@ -30,7 +19,8 @@ impl<'b, 'a> Engine<'b, 'a> {
         ensures loans { KeepsEngine self.old self.new }
         ensures performs { Performs self.old self.new (call ∷ []) result }
     {
-        accepted(self.respond(call))
+        self.respond(call)?;
+        Ok(())
     }
 
     // "`drop 2`, `collect`"
@@ -49,11 +39,8 @@ impl<'b, 'a> Engine<'b, 'a> {
         ensures loans { KeepsEngine self.old self.new }
         ensures performs { Performs self.old self.new (gate_calls r g) result }
     {
-        let Some(x) = self.registers.get(r) else {
-            return Err(Refusal::Empty);
-        };
-        let answer = self.apply(r, x, g);
-        accepted(answer)?;
+        let x = self.operand(r)?;
+        self.apply(r, x, g)?;
         self.drop_collect();
         Ok(())
     }

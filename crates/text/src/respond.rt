@@ -1,10 +1,11 @@
 // What a call does and answers (document 01, "Session calls"; document 02, `on` and `lows`). Its line was read, so 1,
 // 2, 4, 5 and 6 are past: "3 from the left; 7; 8".
-ghost use Rattle.std.specs.Prelude.{◌≡◌};
+ghost use Rattle.std.specs.Prelude.{◌≡◌, ◌<◌, Ok};
+ghost use Rattle.text.specs.Limits.{register_count};
 ghost use Rattle.text.specs.Session.{comparison};
 ghost use Rattle.text.specs.Call.{InRange, Ranged};
 ghost use Rattle.text.specs.Engine.{KeepsEngine, IsEngine};
-ghost use Rattle.text.specs.Respond.{Responds, Replies};
+ghost use Rattle.text.specs.Respond.{OperandRead, Responds, Replies};
 ghost use Rattle.text.specs.declared.call.Call.TheVariants as call;
 
 use crate::answer::Answer;
@@ -13,7 +14,7 @@ use crate::engine::Engine;
 use crate::limits::{Assignment, Mask};
 use diagram::compare;
 use diagram::compare::Comparison;
-use diagram::node::Index;
+use diagram::node::{Edge, Index};
 use diagram::registers::RegisterNumber;
 
 fn comparison(c: Comparison) -> Answer
@@ -27,17 +28,26 @@ fn comparison(c: Comparison) -> Answer
 }
 
 impl<'b, 'a> Engine<'b, 'a> {
-    fn respond_add(&mut self, d: RegisterNumber, a: RegisterNumber, b: RegisterNumber) -> Answer
+    // The edge in a register, or 3 where that is empty.
+    pub(crate) fn operand(&self, a: RegisterNumber) -> Result<Edge, Refusal>
+        requires { a < register_count }
+        ensures { OperandRead self.now.registers.all a result }
+    {
+        self.registers.get(a).ok_or(Refusal::Empty)
+    }
+
+    fn respond_add(
+        &mut self,
+        d: RegisterNumber,
+        a: RegisterNumber,
+        b: RegisterNumber,
+    ) -> Result<Answer, Refusal>
         requires { IsEngine self.old × InRange (call.Add d a b) }
         ensures loans { KeepsEngine self.old self.new }
         ensures responds { Responds self.old self.new (call.Add d a b) result }
     {
-        let Some(x) = self.registers.get(a) else {
-            return Answer::No(Refusal::Empty);
-        };
-        let Some(y) = self.registers.get(b) else {
-            return Answer::No(Refusal::Empty);
-        };
+        let x = self.operand(a)?;
+        let y = self.operand(b)?;
         self.add(d, x, y)
     }
 
@@ -47,99 +57,91 @@ impl<'b, 'a> Engine<'b, 'a> {
         a: RegisterNumber,
         b: RegisterNumber,
         m: Mask,
-    ) -> Answer
+    ) -> Result<Answer, Refusal>
         requires { IsEngine self.old × InRange (call.Cont d a b m) }
         ensures loans { KeepsEngine self.old self.new }
         ensures responds { Responds self.old self.new (call.Cont d a b m) result }
     {
-        let Some(x) = self.registers.get(a) else {
-            return Answer::No(Refusal::Empty);
-        };
-        let Some(y) = self.registers.get(b) else {
-            return Answer::No(Refusal::Empty);
-        };
+        let x = self.operand(a)?;
+        let y = self.operand(b)?;
         self.cont(d, x, y, m)
     }
 
-    fn respond_low(&mut self, d: RegisterNumber, a: RegisterNumber, k: Index) -> Answer
+    fn respond_low(
+        &mut self,
+        d: RegisterNumber,
+        a: RegisterNumber,
+        k: Index,
+    ) -> Result<Answer, Refusal>
         requires { IsEngine self.old × InRange (call.Low d a k) }
         ensures loans { KeepsEngine self.old self.new }
         ensures responds { Responds self.old self.new (call.Low d a k) result }
     {
-        let Some(x) = self.registers.get(a) else {
-            return Answer::No(Refusal::Empty);
-        };
+        let x = self.operand(a)?;
         self.low(d, x, k)
     }
 
-    fn respond_lows(&mut self, d: RegisterNumber, a: RegisterNumber, m: Mask) -> Answer
+    fn respond_lows(
+        &mut self,
+        d: RegisterNumber,
+        a: RegisterNumber,
+        m: Mask,
+    ) -> Result<Answer, Refusal>
         requires { IsEngine self.old × InRange (call.Lows d a m) }
         ensures loans { KeepsEngine self.old self.new }
         ensures responds { Responds self.old self.new (call.Lows d a m) result }
     {
-        let Some(x) = self.registers.get(a) else {
-            return Answer::No(Refusal::Empty);
-        };
+        let x = self.operand(a)?;
         self.lows(d, x, m)
     }
 
-    fn drop_register(&mut self, a: RegisterNumber) -> Answer
+    fn drop_register(&mut self, a: RegisterNumber) -> Result<Answer, Refusal>
         requires { IsEngine self.old × InRange (call.Drop a) }
         ensures loans { KeepsEngine self.old self.new }
         ensures responds { Responds self.old self.new (call.Drop a) result }
     {
-        let Some(_) = self.registers.get(a) else {
-            return Answer::No(Refusal::Empty);
-        };
+        self.operand(a)?;
         self.registers.clear(a);
-        Answer::Ok(self.diagram.state.count)
+        Ok(Answer::Done(self.diagram.state.count))
     }
 
     fn collect(&mut self) -> Answer
         requires { IsEngine self.old }
         ensures loans { KeepsEngine self.old self.new }
-        ensures responds { Responds self.old self.new call.Collect result }
+        ensures responds { Responds self.old self.new call.Collect (Ok result) }
     {
         self.registers = self.diagram.collect(self.registers);
-        Answer::Ok(self.diagram.state.count)
+        Answer::Done(self.diagram.state.count)
     }
 
-    fn at(&self, a: RegisterNumber, v: Assignment) -> Answer
+    fn at(&self, a: RegisterNumber, v: Assignment) -> Result<Answer, Refusal>
         requires { IsEngine self.now × InRange (call.At a v) }
         ensures { Responds self.now self.now (call.At a v) result }
     {
-        let Some(x) = self.registers.get(a) else {
-            return Answer::No(Refusal::Empty);
-        };
+        let x = self.operand(a)?;
         let w = self.diagram.value(x, v as u64);
-        Answer::Value(w as usize)
+        Ok(Answer::Value(w as usize))
     }
 
-    pub(crate) fn cmp(&self, a: RegisterNumber, b: RegisterNumber) -> Answer
+    pub(crate) fn cmp(&self, a: RegisterNumber, b: RegisterNumber) -> Result<Answer, Refusal>
         requires { IsEngine self.now × InRange (call.Cmp a b) }
         ensures { Responds self.now self.now (call.Cmp a b) result }
     {
-        let Some(x) = self.registers.get(a) else {
-            return Answer::No(Refusal::Empty);
-        };
-        let Some(y) = self.registers.get(b) else {
-            return Answer::No(Refusal::Empty);
-        };
-        comparison(compare::compare(x, y))
+        let x = self.operand(a)?;
+        let y = self.operand(b)?;
+        Ok(comparison(compare::compare(x, y)))
     }
 
-    fn on(&self, a: RegisterNumber) -> Answer
+    fn on(&self, a: RegisterNumber) -> Result<Answer, Refusal>
         requires { IsEngine self.now × InRange (call.On a) }
         ensures { Responds self.now self.now (call.On a) result }
     {
-        let Some(x) = self.registers.get(a) else {
-            return Answer::No(Refusal::Empty);
-        };
+        let x = self.operand(a)?;
         let m = self.diagram.support(x);
-        Answer::Mask(m as usize)
+        Ok(Answer::Mask(m as usize))
     }
 
-    pub(crate) fn respond(&mut self, call: Call) -> Answer
+    pub(crate) fn respond(&mut self, call: Call) -> Result<Answer, Refusal>
         requires { IsEngine self.old × InRange call }
         ensures loans { KeepsEngine self.old self.new }
         ensures responds { Responds self.old self.new call result }
@@ -152,7 +154,7 @@ impl<'b, 'a> Engine<'b, 'a> {
             Call::Cont(d, a, b, m) => self.respond_cont(d, a, b, m),
             Call::Low(d, a, k) => self.respond_low(d, a, k),
             Call::Drop(a) => self.drop_register(a),
-            Call::Collect => self.collect(),
+            Call::Collect => Ok(self.collect()),
             Call::At(a, v) => self.at(a, v),
             Call::Cmp(a, b) => self.cmp(a, b),
             Call::On(a) => self.on(a),
@@ -161,14 +163,11 @@ impl<'b, 'a> Engine<'b, 'a> {
     }
 
     // What a line does and answers: its call's, or what its reader refused.
-    pub(crate) fn reply(&mut self, read: Result<Call, Refusal>) -> Answer
+    pub(crate) fn reply(&mut self, read: Result<Call, Refusal>) -> Result<Answer, Refusal>
         requires { IsEngine self.old × Ranged read }
         ensures loans { KeepsEngine self.old self.new }
         ensures replies { Replies self.old self.new read result }
     {
-        match read {
-            Ok(call) => self.respond(call),
-            Err(why) => Answer::No(why),
-        }
+        self.respond(read?)
     }
 }

@@ -4,7 +4,7 @@ use Rattle.text.proofs.answer.put.Goals as goal
 
 pub pair-requires : goal.pair-requires
 pair-requires c =
-    let told = c.in-Ok.is in
+    let told = c.in-Done.is in
     (omega arith, (omega arith, weight_small (rw told at c.requires.1)))
 
 pub pair-requires-in-Value : goal.pair-requires-in-Value

@@ -1,5 +1,5 @@
 -- The fields from the left: each adds its number.
-use Rattle.std.specs.Prelude.{◌≡◌, ℕ, List, ◌+◌, length}
+use Rattle.std.specs.Prelude.{ℕ, List}
 use Rattle.std.proofs.Common.{rules, ◌∙◌}
 use native.Mathlib.Omega.{arith}
 use denote.Ref.{Bor}

@@ -1,16 +1,20 @@
-use Rattle.std.proofs.Common.{sym, ◌∙◌}
+use Rattle.std.specs.Prelude.{◌≡◌, is_err, true, false}
 use borrow.Author.Rules.{rules}
+use Rattle.text.specs.Ruling.{no_at}
 use Rattle.text.specs.JudgeLaws.{first_ahead, parting_within, first_refused, second_ahead, judge_ensures}
+use Rattle.text.specs.declared.check.Fault.TheVariants.{Full}
 use Rattle.text.proofs.judge.run.Goals as goal
 
 pub run-requires : goal.run-requires
 run-requires c =
     (c.start.ensures.start.invariant, (first_ahead c.requires.0, (search rules, (c.requires.1.0, c.requires.1.1))))
 
-pub returns-then-is_err : goal.returns-then-is_err
-returns-then-is_err c =
-    rw (← c.over-diagram.ensures.store.1)
-    (first_refused c.requires.0 c.start.ensures.start c.run.ensures.runs (sym c.is_err.ensures.value ∙ c.if-is_err.true))
+pub returns-in_err-or : goal.returns-in_err-or
+returns-in_err-or c =
+    let refused : is_err c.run.result ≡ true = search rules in
+    let at : c.from_residual.result ≡ no_at Full c.run.new.self.line = search rules in
+    rw (at, ← c.over-diagram.ensures.store.1)
+    (first_refused c.requires.0 c.start.ensures.start c.run.ensures.runs refused)
 
 pub overflow_sub-count : goal.overflow_sub-count
 overflow_sub-count c = search (rules, parting_within)
@@ -19,10 +23,10 @@ pub second-requires : goal.second-requires
 second-requires c =
     let k = c.run.ensures.text in
     let w = c.run.ensures.runs in
-    let q = sym c.is_err.ensures.value ∙ c.if-is_err.false in (
+    let accepted : is_err c.run.result ≡ false = search rules in (
       w.invariant,
       (
-        rw (k.same_text, k.same_qubits) (second_ahead c.requires.0 c.start.ensures.start w q),
+        rw (k.same_text, k.same_qubits) (second_ahead c.requires.0 c.start.ensures.start w accepted),
         rw k.same_qubits (c.requires.1.0, c.requires.1.1),
       ),
     )
@@ -30,7 +34,7 @@ second-requires c =
 pub returns : goal.returns
 returns c =
     let k = c.run.ensures.text in
-    let q = sym c.is_err.ensures.value ∙ c.if-is_err.false in
+    let accepted : is_err c.run.result ≡ false = search rules in
     rw (← c.over-diagram.ensures.store.1)
-    (judge_ensures c.requires.0 c.start.ensures.start c.run.ensures.runs q k.engine.loans.long
+    (judge_ensures c.requires.0 c.start.ensures.start c.run.ensures.runs accepted k.engine.loans.long
     (rw (k.same_text, k.same_qubits) at c.second.ensures))

@@ -1,11 +1,17 @@
-use Rattle.std.proofs.Common.{sym, ◌∙◌}
+use Rattle.std.specs.Prelude.{◌≡◌, is_err, true, false}
+use borrow.Author.Rules.{rules}
+use Rattle.text.specs.Ruling.{no_at}
 use Rattle.text.specs.JudgeLaws.{second_refused, second_ensures}
+use Rattle.text.specs.declared.check.Fault.TheVariants.{Full}
 use Rattle.text.proofs.judge.second.Goals as goal
 
-pub returns-then-is_err : goal.returns-then-is_err
-returns-then-is_err c = second_refused c.run.ensures.runs (sym c.is_err.ensures.value ∙ c.if-is_err.true)
+pub returns-in_err-or : goal.returns-in_err-or
+returns-in_err-or c =
+    let refused : is_err c.run.result ≡ true = search rules in
+    let at : c.from_residual.result ≡ no_at Full c.run.new.self.line = search rules in
+    rw at (second_refused c.run.ensures.runs refused)
 
 pub returns : goal.returns
 returns c =
-    second_ensures c.run.ensures.runs c.run.ensures.text.engine.loans.long
-    (sym c.is_err.ensures.value ∙ c.if-is_err.false) c.cmp.ensures c.ruling_of.ensures
+    let accepted : is_err c.run.result ≡ false = search rules in
+    second_ensures c.run.ensures.runs c.run.ensures.text.engine.loans.long accepted c.cmp.ensures c.ruling_of.ensures

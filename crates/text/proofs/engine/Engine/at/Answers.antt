@@ -1,13 +1,16 @@
+use Rattle.std.specs.Prelude.{◌≡◌, Err}
 use borrow.Author.Rules.{rules}
-use Rattle.diagram.specs.InvariantLaws.{read_valid}
-use Rattle.text.specs.RespondLaws.{empty_at, responds_at}
+use Rattle.text.specs.RespondLaws.{empty_at, operand_valid, responds_at}
+use Rattle.text.specs.declared.call.Refusal.TheVariants.{Empty}
 use Rattle.text.proofs.engine.Engine.at.Goals as goal
 
-pub returns-in_default : goal.returns-in_default
-returns-in_default c = search (rules, empty_at)
+pub returns-in_err-x : goal.returns-in_err-x
+returns-in_err-x c =
+    let empty : c.from_residual.result ≡ Err Empty = search rules in
+    rw empty (empty_at c.requires.0 c.in_err-x.ensures.1)
 
 pub value-w-requires : goal.value-w-requires
-value-w-requires c = search (rules, read_valid)
+value-w-requires c = (c.requires.0.sound, operand_valid c.requires.0.registers c.in_ok-x.ensures)
 
 pub returns : goal.returns
-returns c = search (rules, responds_at)
+returns c = responds_at c.requires.0 c.in_ok-x.ensures c.value-w.ensures

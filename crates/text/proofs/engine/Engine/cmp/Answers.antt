@@ -1,15 +1,23 @@
+use Rattle.std.specs.Prelude.{◌≡◌, Err}
 use borrow.Author.Rules.{rules}
-use Rattle.text.specs.RespondLaws.{empty_cmp, empty_cmp_2, read_small, responds_cmp}
+use Rattle.text.specs.RespondLaws.{empty_cmp, empty_cmp_2, operand_small, responds_cmp}
+use Rattle.text.specs.declared.call.Refusal.TheVariants.{Empty}
 use Rattle.text.proofs.engine.Engine.cmp.Goals as goal
 
-pub returns-in_default : goal.returns-in_default
-returns-in_default c = search (rules, empty_cmp)
+pub returns-in_err-x : goal.returns-in_err-x
+returns-in_err-x c =
+    let empty : c.from_residual.result ≡ Err Empty = search rules in
+    rw empty (empty_cmp c.requires.0 c.in_err-x.ensures.1)
 
-pub returns-in_default-get : goal.returns-in_default-get
-returns-in_default-get c = search (rules, empty_cmp_2)
+pub returns-in_err-y : goal.returns-in_err-y
+returns-in_err-y c =
+    let empty : c.from_residual-in_err-y.result ≡ Err Empty = search rules in
+    rw empty (empty_cmp_2 c.requires.0 c.in_ok-x.ensures c.in_err-y.ensures.1)
 
 pub compare-requires : goal.compare-requires
-compare-requires c = search (rules, read_small)
+compare-requires c =
+    let valid = c.requires.0.registers in
+    (operand_small valid c.in_ok-x.ensures, operand_small valid c.in_ok-y.ensures)
 
 pub returns : goal.returns
-returns c = search (rules, responds_cmp)
+returns c = responds_cmp c.requires.0 c.in_ok-x.ensures c.in_ok-y.ensures c.compare.ensures c.comparison.ensures

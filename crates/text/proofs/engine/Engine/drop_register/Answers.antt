@@ -1,9 +1,13 @@
+use Rattle.std.specs.Prelude.{◌≡◌, Err}
 use borrow.Author.Rules.{rules}
 use Rattle.text.specs.RespondLaws.{empty_drop, responds_drop}
+use Rattle.text.specs.declared.call.Refusal.TheVariants.{Empty}
 use Rattle.text.proofs.engine.Engine.drop_register.Goals as goal
 
-pub returns-in_default-clause-responds : goal.returns-in_default-clause-responds
-returns-in_default-clause-responds c = search (rules, empty_drop)
+pub returns-in_err-operand-clause-responds : goal.returns-in_err-operand-clause-responds
+returns-in_err-operand-clause-responds c =
+    let empty : c.from_residual.result ≡ Err Empty = search rules in
+    rw empty (empty_drop c.requires.0 c.in_err-operand.ensures.1)
 
 pub returns-clause-responds : goal.returns-clause-responds
-returns-clause-responds c = search (rules, responds_drop)
+returns-clause-responds c = responds_drop c.requires.0 c.in_ok-operand.ensures c.clear.ensures

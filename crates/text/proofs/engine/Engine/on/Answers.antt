@@ -1,13 +1,16 @@
+use Rattle.std.specs.Prelude.{◌≡◌, Err}
 use borrow.Author.Rules.{rules}
-use Rattle.diagram.specs.InvariantLaws.{read_valid}
-use Rattle.text.specs.RespondLaws.{empty_on, responds_on}
+use Rattle.text.specs.RespondLaws.{empty_on, operand_valid, responds_on}
+use Rattle.text.specs.declared.call.Refusal.TheVariants.{Empty}
 use Rattle.text.proofs.engine.Engine.on.Goals as goal
 
-pub returns-in_default : goal.returns-in_default
-returns-in_default c = search (rules, empty_on)
+pub returns-in_err-x : goal.returns-in_err-x
+returns-in_err-x c =
+    let empty : c.from_residual.result ≡ Err Empty = search rules in
+    rw empty (empty_on c.requires.0 c.in_err-x.ensures.1)
 
 pub support-m-requires : goal.support-m-requires
-support-m-requires c = search (rules, read_valid)
+support-m-requires c = (c.requires.0.sound, operand_valid c.requires.0.registers c.in_ok-x.ensures)
 
 pub returns : goal.returns
-returns c = search (rules, responds_on)
+returns c = responds_on c.requires.0 c.in_ok-x.ensures c.support-m.ensures.0 c.support-m.ensures.1

@@ -1,26 +1,28 @@
+use Rattle.std.specs.Prelude.{refl}
 use borrow.Author.Rules.{rules}
-use Rattle.std.proofs.Common.{sym}
 use Rattle.std.proofs.lemmas.Result.{err_from_is_err_and}
-use Rattle.diagram.specs.InvariantLaws.{read_valid}
+use Rattle.text.specs.RespondLaws.{operand_valid}
 use Rattle.text.specs.PerformLaws.{performs_empty, performs_gate_refused, performs_gate}
 use Rattle.text.proofs.engine.Engine.perform_gate.Goals as goal
 
-pub returns-in_default-clause-performs : goal.returns-in_default-clause-performs
-returns-in_default-clause-performs c = search (rules, performs_empty)
-
-pub apply-answer-requires : goal.apply-answer-requires
-apply-answer-requires c = (search rules, (search rules, (search (rules, read_valid), search rules)))
-
-pub returns-in_err-accepted-clause-performs : goal.returns-in_err-accepted-clause-performs
-returns-in_err-accepted-clause-performs c =
+pub returns-in_err-x-clause-performs : goal.returns-in_err-x-clause-performs
+returns-in_err-x-clause-performs c =
     let p = err_from_is_err_and c.from_residual.result c.from_residual.ensures.1 in
+    rw p.1 (performs_empty _ c.requires.0 c.requires.1.0 c.in_err-x.ensures.1)
+
+pub apply-requires : goal.apply-requires
+apply-requires c =
+    (search rules, (search rules, (operand_valid c.requires.0.registers c.in_ok-x.ensures, search rules)))
+
+pub returns-in_err-apply-clause-performs : goal.returns-in_err-apply-clause-performs
+returns-in_err-apply-clause-performs c =
+    let p = err_from_is_err_and c.from_residual-in_err-apply.result c.from_residual-in_err-apply.ensures.1 in
     let pre = c.requires in
     rw p.1
-    (performs_gate_refused _ pre.0 pre.1.0 c.get.ensures pre.1.1 c.in-Some.is c.apply-answer.ensures.sets
-    (sym c.in_err-accepted.ensures))
+    (performs_gate_refused _ pre.0 pre.1.0 pre.1.1 c.in_ok-x.ensures c.in_err-apply.ensures.sets refl)
 
 pub returns-clause-performs : goal.returns-clause-performs
 returns-clause-performs c =
     let pre = c.requires in
-    performs_gate _ pre.0 pre.1.0 c.get.ensures pre.1.1 c.in-Some.is c.apply-answer.ensures.sets
-    (sym c.in_ok-accepted.ensures) c.drop_collect.ensures.drops
+    performs_gate _ pre.0 pre.1.0 pre.1.1 c.in_ok-x.ensures c.in_ok-apply.ensures.sets refl
+    c.drop_collect.ensures.drops

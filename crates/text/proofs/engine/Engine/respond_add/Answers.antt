@@ -1,16 +1,25 @@
+use Rattle.std.specs.Prelude.{◌≡◌, Err}
 use borrow.Author.Rules.{rules}
-use Rattle.diagram.specs.InvariantLaws.{read_valid}
-use Rattle.text.specs.RespondLaws.{empty_add, empty_add_2, responds_add}
+use Rattle.text.specs.RespondLaws.{empty_add, empty_add_2, operand_valid, responds_add}
+use Rattle.text.specs.declared.call.Refusal.TheVariants.{Empty}
 use Rattle.text.proofs.engine.Engine.respond_add.Goals as goal
 
-pub returns-in_default-clause-responds : goal.returns-in_default-clause-responds
-returns-in_default-clause-responds c = search (rules, empty_add)
+pub returns-in_err-x-clause-responds : goal.returns-in_err-x-clause-responds
+returns-in_err-x-clause-responds c =
+    let empty : c.from_residual.result ≡ Err Empty = search rules in
+    rw empty (empty_add c.requires.0 c.in_err-x.ensures.1)
 
-pub returns-in_default-get-clause-responds : goal.returns-in_default-get-clause-responds
-returns-in_default-get-clause-responds c = search (rules, empty_add_2)
+pub returns-in_err-y-clause-responds : goal.returns-in_err-y-clause-responds
+returns-in_err-y-clause-responds c =
+    let empty : c.from_residual-in_err-y.result ≡ Err Empty = search rules in
+    rw empty (empty_add_2 c.requires.0 c.in_ok-x.ensures c.in_err-y.ensures.1)
 
 pub add-requires : goal.add-requires
-add-requires c = search (rules, read_valid)
+add-requires c =
+    let valid = c.requires.0.registers in (
+      search rules,
+      (search rules, (operand_valid valid c.in_ok-x.ensures, operand_valid valid c.in_ok-y.ensures)),
+    )
 
 pub returns-clause-responds : goal.returns-clause-responds
-returns-clause-responds c = search (rules, responds_add)
+returns-clause-responds c = responds_add c.in_ok-x.ensures c.in_ok-y.ensures c.add.ensures.sets

@@ -1,13 +1,22 @@
+use Rattle.std.specs.Prelude.{◌≡◌, Err}
 use borrow.Author.Rules.{rules}
-use Rattle.diagram.specs.InvariantLaws.{read_valid}
-use Rattle.text.specs.RespondLaws.{empty_low, responds_low}
+use Rattle.text.specs.RespondLaws.{empty_low, operand_valid, responds_low}
+use Rattle.text.specs.declared.call.Refusal.TheVariants.{Empty}
 use Rattle.text.proofs.engine.Engine.respond_low.Goals as goal
 
-pub returns-in_default-clause-responds : goal.returns-in_default-clause-responds
-returns-in_default-clause-responds c = search (rules, empty_low)
+pub returns-in_err-x-clause-responds : goal.returns-in_err-x-clause-responds
+returns-in_err-x-clause-responds c =
+    let empty : c.from_residual.result ≡ Err Empty = search rules in
+    rw empty (empty_low c.requires.0 c.in_err-x.ensures.1)
 
 pub low-requires : goal.low-requires
-low-requires c = (search rules, (search rules, (search (rules, read_valid), (search rules, search rules))))
+low-requires c = (
+  search rules,
+  (
+    search rules,
+    (operand_valid c.requires.0.registers c.in_ok-x.ensures, (search rules, search rules)),
+  ),
+)
 
 pub returns-clause-responds : goal.returns-clause-responds
-returns-clause-responds c = search (rules, responds_low)
+returns-clause-responds c = responds_low c.in_ok-x.ensures c.low.ensures.sets

@@ -1,7 +1,7 @@
 use Rattle.std.specs.Prelude.{refl}
 use Rattle.std.proofs.lemmas.Result.{err_from_is_err_and}
 use borrow.Author.Rules.{rules}
-use Rattle.text.specs.ListLaws.{gates_loop_start, gates_loop_gate, gates_loop_next, gates_loop_refused}
+use Rattle.text.specs.ListLaws.{gates_loop_gate, gates_loop_next, gates_loop_refused}
 use Rattle.text.specs.ListLaws.{gates_loop_end}
 use Rattle.text.proofs.list.Lists.gates.Goals as goal
 

@@ -3,7 +3,7 @@ use mathlib.Core.Path.{refl}
 use native.Mathlib.Omega.{arith}
 use Rattle.text.specs.Ruling.{printed_ruling}
 use Rattle.text.specs.RulingLaws.{ruling_written_answer}
-use Rattle.text.proofs.ruling.write.Goals as goal
+use Rattle.text.proofs.ruling.write_ruling.Goals as goal
 
 pub write-requires-in-Factor : goal.write-requires-in-Factor
 write-requires-in-Factor c = (
@@ -25,7 +25,3 @@ pub returns-in-Differ : goal.returns-in-Differ
 unfolding printed_ruling
 returns-in-Differ c = rw c.in-Differ.is
     (ruling_written_answer _ _ refl c.write-in-Differ.ensures)
-
-pub returns-in-No : goal.returns-in-No
-returns-in-No c = rw c.in-No.is
-    c.write_refusal.ensures
