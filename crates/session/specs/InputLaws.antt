@@ -1,5 +1,5 @@
 -- The loop over the input.
-use Rattle.std.specs.Prelude.{◌≡◌, refl, ◌≢◌, List, [], ◌++◌, ℕ, zero, suc, ◌≤◌, length, take, ⊤, Result, Ok, Err}
+use Rattle.std.specs.Prelude.{◌≡◌, refl, ◌≢◌, List, [], ◌++◌, ℕ, zero, suc, ◌≤◌, length, take, Ok, Err}
 use Rattle.std.proofs.Common.{subst}
 use Rattle.stdin.specs.Star.{none as noSteps, more}
 use Rattle.text.specs.Squeeze.{NoneEnsures}

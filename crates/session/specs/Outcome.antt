@@ -28,6 +28,7 @@ pub record NothingRun (m : Memory) (h : SessionState) (x : Stopped) (s' : List �
   pub store : s' ≡ m.store
   pub engine : e' ≡ h.engine
 
+-- unless a write has failed, the bytes of a line that has begun are in the buffer
 abbrev pub FinishRequires : Memory → SessionState → Result ⊤ Stopped → Type 0
 FinishRequires m h (Ok _) = FeedRequires m h
 FinishRequires m h (Err ReadFailed) = FeedRequires m h

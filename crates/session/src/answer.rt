@@ -11,7 +11,9 @@ use text::limits::ANSWER_ROOM;
 use text::progress::Progress;
 use text::squeeze::Squeeze;
 
-// A session on standard input: the line that has come so far, and the engine after the lines before it.
+// A session on standard input: the line that has come so far, squeezed into the front of `line`, and the engine after
+// the lines before it. The engine is a reference: were it held by value, no proof would know what its store holds once
+// the session is gone.
 #[derive(Drop)]
 pub struct Session<'l, 'b, 'a> {
     pub line: &'l mut [u8],
@@ -35,7 +37,7 @@ impl<'l, 'b, 'a> Session<'l, 'b, 'a> {
         let length = self.squeeze.length;
         let line = &mut *self.line;
         line[length] = b'\n';
-        run_first(self.engine, line, length + 1, out)
+        run_line(self.engine, line, length + 1, out)
     }
 
     // Runs the line and writes its answer.
@@ -51,11 +53,12 @@ impl<'l, 'b, 'a> Session<'l, 'b, 'a> {
     }
 }
 
-// Runs the one line that a buffer begins with.
-fn run_first(engine: &mut Engine, line: &[u8], end: usize, out: &mut [u8]) -> Progress
-    requires { IsEngine engine.old × (end ≤ length line.now) }
+// Runs the line in the buffer's first bytes. It is no part of `reply`, since of a slice in a field nothing is known
+// after a part of it was lent.
+fn run_line(engine: &mut Engine, buffer: &[u8], end: usize, out: &mut [u8]) -> Progress
+    requires { IsEngine engine.old × (end ≤ length buffer.now) }
     ensures loans { KeepsEngine engine.old engine.new }
-    ensures resumes { Resumes engine.old engine.new (take end line.now) 1 out.old out.new result }
+    ensures resumes { Resumes engine.old engine.new (take end buffer.now) 1 out.old out.new result }
 {
-    engine.resume(&line[..end], out, 1)
+    engine.resume(&buffer[..end], out, 1)
 }

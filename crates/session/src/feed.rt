@@ -41,7 +41,7 @@ impl<'l, 'b, 'a> Session<'l, 'b, 'a> {
     pub fn last(&mut self, stdout: Stdout) -> Result<(), WriteFailed>
         requires { FeedRequires (memory_of self.old) (state_of self.old) }
         ensures loans { KeepsSession self.old self.new }
-        ensures lasts { LastEnsures (memory_of self.old) (state_of self.old)
+        ensures ends { LastEnsures (memory_of self.old) (state_of self.old)
             (memory_of self.new).store (state_of self.new).engine }
     {
         if 0 < self.squeeze.length {

@@ -31,8 +31,8 @@ const STORE: usize = 32768;
 // 4096 remembered results of four words.
 const CACHE: usize = 16384;
 
-// The input to its end, and its last line. A literal here, over the engine: where the session held the engine itself,
-// or were made in `run`, no proof would know what the store holds in the end.
+// From an engine with nothing in it: the input to its end, and its last line. The session is made here and not in `run`:
+// over variables of `run`, whose engine leads on to a parameter, no proof is generated.
 fn session<'l, 'b, 'a>(
     stdin: Stdin,
     stdout: Stdout,

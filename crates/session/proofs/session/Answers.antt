@@ -1,14 +1,10 @@
 use Rattle.std.proofs.Common.{rules}
 use Rattle.session.specs.InputLaws.{input_start, session_start}
-use Rattle.session.specs.SessionLaws.{finish_requires, session_ensures}
+use Rattle.session.specs.SessionLaws.{session_ensures}
 use Rattle.session.proofs.session.Goals as goal
 
 pub receive-received-requires : goal.receive-received-requires
-receive-received-requires c =
-    session_start (input_start c.requires c.none.ensures c.start.ensures.start)
-
-pub finish-requires : goal.finish-requires
-finish-requires c = finish_requires c.receive-received.ensures.receives
+receive-received-requires c = session_start (input_start c.requires c.none.ensures c.start.ensures.start)
 
 pub returns-clause-session : goal.returns-clause-session
 returns-clause-session c =

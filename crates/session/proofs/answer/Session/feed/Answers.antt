@@ -1,6 +1,6 @@
 use Rattle.std.proofs.lemmas.Result.{err_from_is_err_and}
 use Rattle.std.proofs.Common.{rules}
-use Rattle.session.specs.FeedLaws.{feed_start, feed_step, feed_lost}
+use Rattle.session.specs.FeedLaws.{feed_step, feed_lost}
 use Rattle.session.proofs.answer.Session.feed.Goals as goal
 
 pub returns-in_err-step-clause-feeds : goal.returns-in_err-step-clause-feeds
