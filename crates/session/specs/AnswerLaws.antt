@@ -11,11 +11,10 @@ use Rattle.text.specs.Text.{Bytes, LF, tab, onto, parts, lines}
 use Rattle.text.specs.Answer.{printed}
 use Rattle.text.specs.Session.{at_most, TallyRun, with_answer, run}
 use Rattle.text.specs.Squeeze.{squeezed_from, squeezed, SqueezeFits, SqueezeInvariant}
-use Rattle.text.specs.Engine.{tally_of}
-use Rattle.text.specs.Progress.{run_from, ResumeEnsures}
+use Rattle.text.specs.Engine.{Contents, tally_of}
+use Rattle.text.specs.Progress.{RunState, run_from, ResumeEnsures}
 use Rattle.text.specs.SqueezeReadLaws.{read_line_squeezed}
 use Rattle.text.specs.AgreesLaws.{printed_front, printed_within}
-use Rattle.text.specs.declared.engine.Engine.{Engine}
 use Rattle.text.specs.declared.progress.Progress.{Progress}
 use Rattle.text.specs.declared.squeeze.Squeeze.{Squeeze}
 use Rattle.session.specs.Answer.{memory, NoLf, none, byte, reply_to, ReplyEnsures}
@@ -33,15 +32,19 @@ no_LF_squeezed t w (byte {x} h u) =
     (no_LF_either (ltb t 5) (byte h (no_LF_squeezed (suc t) 0 u)) (no_LF_squeezed t 9 u))
     (no_LF_either (ltb w 9) (byte h (no_LF_squeezed t (suc w) u)) (no_LF_squeezed t w u))
 
+-- how far a run has come, where the engine holds e
+abbrev run_state : Progress → Contents → RunState
+run_state p e = record { code = p.code; lines = p.lines; bytes = p.bytes; place = p.place; engine = e }
+
 -- bytes up to an LF are a line
 pub line_first : {s : Bytes} (rest : Bytes) → NoLf s → lines (s ++ (LF ∷ rest)) ≡ s ∷ lines rest
 unfolding lines parts onto
 line_first rest none = refl
 line_first rest (byte {x} h u) = rw (ne_eqb x LF h, line_first rest u)
 
-module _ {line : Bytes} {q : Squeeze} {e : Engine} {s c' s' o o' : List ℕ} {r : Progress}
+module _ {line : Bytes} {q : Squeeze} {e e' : Contents} {s c' s' o o' : List ℕ} {r : Progress}
     (h : line_room ≤ length line) (f : SqueezeFits q) (w : answer_room ≤ length o)
-    (m : ResumeEnsures (take (q.length + 1) (set line q.length LF)) 1 e s c' s' o o' r) where
+    (m : ResumeEnsures (take (q.length + 1) (set line q.length LF)) 1 e s c' s' o o' (run_state r e')) where
   module _ (seen : Bytes) (u : NoLf seen) (k : SqueezeInvariant seen line q) where
     one_line : lines (take (q.length + 1) (set line q.length LF)) ≡ squeezed seen ∷ []
     unfolding squeezed lines parts
@@ -59,11 +62,11 @@ module _ {line : Bytes} {q : Squeeze} {e : Engine} {s c' s' o o' : List ℕ} {r 
     unfolding with_answer run_from
     reply_answer = printed_front m.agrees.ends ∙ ap (λ (x : TallyRun indices). x.output) one_run
 
-    reply_tally : tally_of s' r.engine ≡ (reply_to seen s e).1
+    reply_tally : tally_of s' e' ≡ (reply_to seen s e).1
     unfolding with_answer
     reply_tally = m.tally ∙ ap (λ (x : TallyRun indices). x.tally) one_run
 
-  pub reply_ensures : {c line' : List ℕ} → ReplyEnsures (memory line c s) q e (memory line' c' s') o' r
+  pub reply_ensures : {c line' : List ℕ} → ReplyEnsures (memory line c s) q e (memory line' c' s') e' o' r
   reply_ensures = record {
     answered = record { invariant = m.invariant; tally = reply_tally };
     within = printed_within m.agrees.ends;

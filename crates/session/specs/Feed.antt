@@ -1,28 +1,25 @@
 -- What taking in bytes promises: the input's lines are run, but for the bytes after its last LF; after the first answer
 -- that could not be written none is.
-use Rattle.std.specs.Prelude.{◌≡◌, List, ◌++◌, ℕ, ◌+◌, ◌≤◌, ◌<◌, length, Result, Ok, Err}
+use Rattle.std.specs.Prelude.{◌≡◌, List, ◌++◌, ℕ, ◌+◌, ◌≤◌, ◌<◌, length, ⊤, Result, Ok, Err}
 use Rattle.diagram.specs.Node.{capacity}
-use Rattle.diagram.specs.Invariant.{Invariant}
 use Rattle.text.specs.Text.{Bytes, lines}
 use Rattle.text.specs.Session.{at_most, empty_run, run}
 use Rattle.text.specs.Squeeze.{SqueezeInvariant}
-use Rattle.text.specs.Engine.{tally_of}
-use Rattle.text.specs.declared.engine.Engine.{Engine}
+use Rattle.text.specs.Engine.{Contents, tally_of, EngineInvariant}
 use Rattle.text.specs.declared.squeeze.Squeeze.{Squeeze}
-use Rattle.session.specs.Answer.{Memory, AnswerRequires, NoLf, engine_of}
+use Rattle.session.specs.Answer.{Memory, SessionState, AnswerRequires, NoLf}
 use Rattle.session.specs.declared.answer.WriteFailed.{WriteFailed}
-use Rattle.session.specs.declared.feed.SessionState.{SessionState}
 use Rattle.text.specs.Limits.{answer_room}
 
 -- The engine is where the tally's own run of these lines ends, over every output that has room for their answers:
 -- "Before a line, if fewer than 16 output bytes remain, the run stops with 9", and a program's output has no end.
-pub record AfterLines (ls : List Bytes) (s : List ℕ) (e : Engine) : Type 0 where
+pub record AfterLines (ls : List Bytes) (s : List ℕ) (e : Contents) : Type 0 where
   pub output : Bytes
   pub is : (room : ℕ) → length output + answer_room ≤ room → run (at_most (capacity s)) room ls empty_run
       ≡ record { code = 0; answered = length ls; output = output; tally = tally_of s e }
 
 -- The text's first lines were run, and no other.
-pub record AfterFirstLines (text : Bytes) (s : List ℕ) (e : Engine) : Type 0 where
+pub record AfterFirstLines (text : Bytes) (s : List ℕ) (e : Contents) : Type 0 where
   pub done : List Bytes
   pub others : List Bytes
   pub split : lines text ≡ done ++ others
@@ -30,14 +27,14 @@ pub record AfterFirstLines (text : Bytes) (s : List ℕ) (e : Engine) : Type 0 w
 
 -- The lines that end before a place of the text were run, and no other. The bytes behind that place, and whatever
 -- comes after them, are other lines.
-pub record AfterLinesBefore (text : Bytes) (s : List ℕ) (e : Engine) : Type 0 where
+pub record AfterLinesBefore (text : Bytes) (s : List ℕ) (e : Contents) : Type 0 where
   pub done : List Bytes
   pub behind : Bytes
   pub split : (rest : Bytes) → lines (text ++ rest) ≡ done ++ lines (behind ++ rest)
   pub ran : AfterLines done s e
 
 -- Every line that ended was run, and the bytes of the one that did not were not.
-pub record AfterEndedLines (text : Bytes) (s : List ℕ) (e : Engine) : Type 0 where
+pub record AfterEndedLines (text : Bytes) (s : List ℕ) (e : Contents) : Type 0 where
   pub to : AfterLinesBefore text s e
   pub unbroken : NoLf to.behind
 
@@ -58,31 +55,31 @@ pub record FeedInvariant (text : Bytes) (n : ℕ) (m : Memory) (h : SessionState
   pub seen : PartialLine to.behind m.line h.squeeze
 
 -- .. and after more bytes.
-pub record FeedProgress (text : Bytes) (n : ℕ) (m' : Memory) (r : SessionState) : Type 0 where
+pub record FeedProgress (text : Bytes) (n : ℕ) (m' : Memory) (h' : SessionState) : Type 0 where
   pub lines : ℕ
-  pub invariant : FeedInvariant text lines m' r
+  pub invariant : FeedInvariant text lines m' h'
   pub more : n ≤ lines
 
 -- The line whose answer could not be written was run, and none after it.
-pub record FeedLost (text : Bytes) (n : ℕ) (m' : Memory) (e : Engine) : Type 0 where
-  pub invariant : Invariant m'.cache m'.store e.state e.registers.all
-  pub to : AfterLinesBefore text m'.store e
+pub record FeedLost (text : Bytes) (n : ℕ) (m' : Memory) (e' : Contents) : Type 0 where
+  pub invariant : EngineInvariant m'.cache m'.store e'
+  pub to : AfterLinesBefore text m'.store e'
   pub lost : n < length to.done
 
-abbrev pub FeedOutcome : Bytes → ℕ → Memory → Result SessionState WriteFailed → Type 0
-FeedOutcome text n m' (Ok r) = FeedProgress text n m' r
-FeedOutcome text n m' (Err w) = FeedLost text n m' w.engine
+abbrev pub FeedOutcome : Bytes → ℕ → Memory → SessionState → Result ⊤ WriteFailed → Type 0
+FeedOutcome text n m' h' (Ok _) = FeedProgress text n m' h'
+FeedOutcome text n m' h' (Err _) = FeedLost text n m' h'.engine
 
-abbrev pub FeedFits : Memory → Result SessionState WriteFailed → Type 0
-FeedFits m' (Ok r) = FeedRequires m' r
-FeedFits m' (Err w) = Invariant m'.cache m'.store w.engine.state w.engine.registers.all
+abbrev pub FeedFits : Memory → SessionState → Result ⊤ WriteFailed → Type 0
+FeedFits m' h' (Ok _) = FeedRequires m' h'
+FeedFits m' h' (Err _) = EngineInvariant m'.cache m'.store h'.engine
 
 -- The bytes that come next are taken in; after a failed write nothing is run any more.
-pub record FeedEnsures (part : Bytes) (m : Memory) (h : SessionState) (m' : Memory)
-    (r : Result SessionState WriteFailed) : Type 0 where
-  pub fits : FeedFits m' r
-  pub on : (text : Bytes) (n : ℕ) → FeedInvariant text n m h → FeedOutcome (text ++ part) n m' r
+pub record FeedEnsures (part : Bytes) (m : Memory) (h : SessionState) (m' : Memory) (h' : SessionState)
+    (r : Result ⊤ WriteFailed) : Type 0 where
+  pub fits : FeedFits m' h' r
+  pub on : (text : Bytes) (n : ℕ) → FeedInvariant text n m h → FeedOutcome (text ++ part) n m' h' r
 
 -- The input has ended, and all its lines are run: "A text is split at LF; a last part without LF counts unless empty".
-pub record LastEnsures (m : Memory) (h : SessionState) (s' : List ℕ) (r : Result Engine WriteFailed) : Type 0 where
-  pub all : (text : Bytes) (n : ℕ) → FeedInvariant text n m h → AfterLines (lines text) s' (engine_of r)
+pub record LastEnsures (m : Memory) (h : SessionState) (s' : List ℕ) (e' : Contents) : Type 0 where
+  pub all : (text : Bytes) (n : ℕ) → FeedInvariant text n m h → AfterLines (lines text) s' e'

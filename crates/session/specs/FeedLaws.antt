@@ -1,6 +1,6 @@
 -- Bytes taken in one after the other, and the input's last line.
 use Rattle.std.specs.Prelude.{◌≡◌, refl, ◌≢◌, Bool, true, false, cond, List, [], ◌∷◌, ◌++◌, ℕ, ◌+◌, ◌≤◌, ◌<◌, eqb}
-use Rattle.std.specs.Prelude.{length, take, drop, get_or, Result, Ok, Err}
+use Rattle.std.specs.Prelude.{length, take, drop, get_or, ⊤, Result, Ok, Err}
 use Rattle.std.proofs.Common.{sym, ◌∙◌, append-nil, append_assoc, add-one, arith, ne_eqb, le-leb, length-append}
 use Rattle.std.proofs.Common.{take-suc, length-take-le, take-append-drop}
 use Rattle.diagram.specs.Node.{capacity}
@@ -8,16 +8,14 @@ use Rattle.text.specs.Text.{Bytes, LF, tab, lines, parts, onto}
 use Rattle.text.specs.Answer.{printed}
 use Rattle.text.specs.Session.{at_most, empty_run, with_answer, run}
 use Rattle.text.specs.Squeeze.{squeezed_from, squeezed, NoneEnsures, PushEnsures}
-use Rattle.text.specs.Engine.{tally_of, EngineStartEnsures}
+use Rattle.text.specs.Engine.{Contents, tally_of, EngineStartEnsures}
 use Rattle.text.specs.SessionLaws.{run_append}
-use Rattle.text.specs.declared.engine.Engine.{Engine}
 use Rattle.text.specs.declared.squeeze.Squeeze.{Squeeze}
-use Rattle.session.specs.Answer.{Memory, memory, NoLf, none, byte, reply_to, engine_of, AnswerEnsures}
+use Rattle.session.specs.Answer.{Memory, memory, SessionState, NoLf, none, byte, reply_to, AnswerEnsures}
 use Rattle.session.specs.AnswerLaws.{line_first}
 use Rattle.session.specs.Feed.{AfterLines, AfterFirstLines, AfterLinesBefore, FeedRequires, FeedInvariant}
 use Rattle.session.specs.Feed.{FeedEnsures, LastEnsures}
 use Rattle.session.specs.declared.answer.WriteFailed.{WriteFailed}
-use Rattle.session.specs.declared.feed.SessionState.{SessionState}
 use Rattle.text.specs.Limits.{answer_room}
 
 -- lines
@@ -53,11 +51,11 @@ line_none (x ∷ s) h = absurd (omega (arith, kept_some x s))
 
 -- lines that were run
 
-pub after_none : {s c : List ℕ} {e : Engine} → EngineStartEnsures c s e → AfterLines [] s e
+pub after_none : {s₀ c s : List ℕ} {e : Contents} → EngineStartEnsures c s₀ s e → AfterLines [] s e
 unfolding run empty_run
 after_none a = record { output = []; is = λ room h. rw a.is }
 
-pub after_more : {ls : List Bytes} {s s' : List ℕ} {e n : Engine} (l : Bytes) → length s' ≡ length s → AfterLines ls s e
+pub after_more : {ls : List Bytes} {s s' : List ℕ} {e n : Contents} (l : Bytes) → length s' ≡ length s → AfterLines ls s e
     → tally_of s' n ≡ (reply_to l s e).1
     → AfterLines (ls ++ (l ∷ [])) s' n
 unfolding run with_answer
@@ -79,7 +77,7 @@ after_more {ls} {s} {s'} {e} {n} l k r t = record {
 }
 
 -- behind the lines that were run, more bytes
-abbrev before_more : {text : Bytes} {s : List ℕ} {e : Engine} (more : Bytes) → AfterLinesBefore text s e
+abbrev before_more : {text : Bytes} {s : List ℕ} {e : Contents} (more : Bytes) → AfterLinesBefore text s e
     → AfterLinesBefore (text ++ more) s e
 before_more {text} b f = record {
   done = f.done;
@@ -91,7 +89,7 @@ before_more {text} b f = record {
 -- one byte: a line's end, or a byte of a line
 
 -- the line that has come is run
-abbrev line_ends : {m : Memory} {text : Bytes} {n : ℕ} {h : SessionState} {c' s' line' : List ℕ} {e : Engine}
+abbrev line_ends : {m : Memory} {text : Bytes} {n : ℕ} {h : SessionState} {c' s' line' : List ℕ} {e : Contents}
     → FeedInvariant text n m h → length s' ≡ length m.store
     → AnswerEnsures m h.squeeze h.engine (memory line' c' s') e → AfterLinesBefore (text ++ (LF ∷ [])) s' e
 line_ends {text = text} f k a =
@@ -110,10 +108,10 @@ line_ends {text = text} f k a =
     }
 
 module _ {line c s : List ℕ} {h : SessionState} where
-  pub feeds_end : {line' c' s' : List ℕ} {b : ℕ} {q : Squeeze} {e : Engine} → b ≡ LF
+  pub feeds_end : {line' c' s' : List ℕ} {b : ℕ} {q : Squeeze} {e : Contents} → b ≡ LF
       → length line' ≡ length line → length s' ≡ length s → FeedRequires (memory line c s) h
       → AnswerEnsures (memory line c s) h.squeeze h.engine (memory line' c' s') e → NoneEnsures q
-      → FeedEnsures (b ∷ []) (memory line c s) h (memory line' c' s') (Ok (record { squeeze = q; engine = e }))
+      → FeedEnsures (b ∷ []) (memory line c s) h (memory line' c' s') (record { squeeze = q; engine = e }) (Ok tt)
   feeds_end {line'} {c'} {s'} {b} {q} {e} z m k r a g = rw z (record {
     fits = after;
     on = λ text n f. record {
@@ -131,11 +129,10 @@ module _ {line c s : List ℕ} {h : SessionState} where
       after : FeedRequires (memory line' c' s') (record { squeeze = q; engine = e })
       after = record { room = omega (arith, r.room, m); fits = g.fits; invariant = a.invariant }
 
-  pub feeds_lost : {line' c' s' : List ℕ} {b : ℕ} {w : WriteFailed} {r : Result SessionState WriteFailed} → r ≡ Err w
-      → b ≡ LF → length s' ≡ length s
-      → AnswerEnsures (memory line c s) h.squeeze h.engine (memory line' c' s') w.engine
-      → FeedEnsures (b ∷ []) (memory line c s) h (memory line' c' s') r
-  feeds_lost p z k a = rw (p, z) (record {
+  pub feeds_lost : {line' c' s' : List ℕ} {b : ℕ} {h' : SessionState} (w : WriteFailed) → b ≡ LF → length s' ≡ length s
+      → AnswerEnsures (memory line c s) h.squeeze h.engine (memory line' c' s') h'.engine
+      → FeedEnsures (b ∷ []) (memory line c s) h (memory line' c' s') h' (Err w)
+  feeds_lost w z k a = rw z (record {
     fits = a.invariant;
     on = λ text n f. record {
       invariant = a.invariant;
@@ -146,7 +143,7 @@ module _ {line c s : List ℕ} {h : SessionState} where
 
   pub feeds_byte : {line' : List ℕ} {b : ℕ} {q : Squeeze} → b ≢ LF
       → FeedRequires (memory line c s) h → PushEnsures line h.squeeze b line' q
-      → FeedEnsures (b ∷ []) (memory line c s) h (memory line' c s) (Ok (record { squeeze = q; engine = h.engine }))
+      → FeedEnsures (b ∷ []) (memory line c s) h (memory line' c s) (record { squeeze = q; engine = h.engine }) (Ok tt)
   feeds_byte {line'} {b} {q} z k p = record {
     fits = after;
     on = λ text n f. record {
@@ -166,15 +163,15 @@ module _ {line c s : List ℕ} {h : SessionState} where
 
 -- the loop over a part
 
-pub feed_start : {m : Memory} {h : SessionState} → FeedRequires m h → FeedEnsures [] m h m (Ok h)
+pub feed_start : {m : Memory} {h : SessionState} → FeedRequires m h → FeedEnsures [] m h m h (Ok tt)
 feed_start k = record {
   fits = k;
   on = λ text n f. record { lines = n; invariant = rw (append-nil text) f; more = omega arith };
 }
 
 -- bytes after bytes
-feeds_then : {p q : Bytes} {m m' m'' : Memory} {h h' : SessionState} (r : Result SessionState WriteFailed)
-    → FeedEnsures p m h m' (Ok h') → FeedEnsures q m' h' m'' r → FeedEnsures (p ++ q) m h m'' r
+feeds_then : {p q : Bytes} {m m' m'' : Memory} {h h' h'' : SessionState} (r : Result ⊤ WriteFailed)
+    → FeedEnsures p m h m' h' (Ok tt) → FeedEnsures q m' h' m'' h'' r → FeedEnsures (p ++ q) m h m'' h'' r
 feeds_then {p} {q} (Ok _) f g = record {
   fits = g.fits;
   on = λ text n v.
@@ -195,8 +192,8 @@ feeds_then {p} {q} (Err _) f g = record {
 }
 
 -- bytes after an answer that could not be written
-feeds_no_more : {p : Bytes} {m m' : Memory} {h : SessionState} {w : WriteFailed} (q : Bytes)
-    → FeedEnsures p m h m' (Err w) → FeedEnsures (p ++ q) m h m' (Err w)
+feeds_no_more : {p : Bytes} {m m' : Memory} {h h' : SessionState} {w : WriteFailed} (q : Bytes)
+    → FeedEnsures p m h m' h' (Err w) → FeedEnsures (p ++ q) m h m' h' (Err w)
 feeds_no_more {p} q f = record {
   fits = f.fits;
   on = λ text n v.
@@ -204,20 +201,19 @@ feeds_no_more {p} q f = record {
       rw (← append_assoc text p q) (record { invariant = x.invariant; to = before_more q x.to; lost = x.lost });
 }
 
-module _ (part : Bytes) {m m' m'' : Memory} {h h' : SessionState} {i : ℕ} (l : i < length part)
-    (f : FeedEnsures (take i part) m h m' (Ok h')) where
-  pub feed_step : {r : Result SessionState WriteFailed} → FeedEnsures (get_or part i 0 ∷ []) m' h' m'' r
-      → FeedEnsures (take (i + 1) part) m h m'' r
+module _ (part : Bytes) {m m' m'' : Memory} {h h' h'' : SessionState} {i : ℕ} (l : i < length part)
+    (f : FeedEnsures (take i part) m h m' h' (Ok tt)) where
+  pub feed_step : {r : Result ⊤ WriteFailed} → FeedEnsures (get_or part i 0 ∷ []) m' h' m'' h'' r
+      → FeedEnsures (take (i + 1) part) m h m'' h'' r
   feed_step {r} g = rw (add-one i, take-suc part i 0 l) (feeds_then r f g)
 
-  pub feed_lost : {w : WriteFailed} {r : Result SessionState WriteFailed} → r ≡ Err w
-      → FeedEnsures (get_or part i 0 ∷ []) m' h' m'' (Err w)
-      → FeedEnsures part m h m'' r
-  feed_lost p g = rw p (rw (take-append-drop (i + 1) part) at (feeds_no_more (drop (i + 1) part) (feed_step g)))
+  pub feed_lost : {w : WriteFailed} → FeedEnsures (get_or part i 0 ∷ []) m' h' m'' h'' (Err w)
+      → FeedEnsures part m h m'' h'' (Err w)
+  feed_lost g = rw (take-append-drop (i + 1) part) at (feeds_no_more (drop (i + 1) part) (feed_step g))
 
 -- the input's end
 
-pub first_before : {text : Bytes} {s : List ℕ} {e : Engine} → AfterLinesBefore text s e → AfterFirstLines text s e
+pub first_before : {text : Bytes} {s : List ℕ} {e : Contents} → AfterLinesBefore text s e → AfterFirstLines text s e
 first_before {text} f = record {
   done = f.done;
   others = lines f.behind;
@@ -225,11 +221,11 @@ first_before {text} f = record {
   ran = f.ran;
 }
 
-pub first_all : {text : Bytes} {s : List ℕ} {e : Engine} → AfterLines (lines text) s e → AfterFirstLines text s e
+pub first_all : {text : Bytes} {s : List ℕ} {e : Contents} → AfterLines (lines text) s e → AfterFirstLines text s e
 first_all {text} r = record { done = lines text; others = []; split = sym (append-nil (lines text)); ran = r }
 
 module _ {line c s : List ℕ} {h : SessionState} where
-  pub last_none : h.squeeze.length ≤ 0 → LastEnsures (memory line c s) h s (Ok h.engine)
+  pub last_none : h.squeeze.length ≤ 0 → LastEnsures (memory line c s) h s h.engine
   last_none z = record {
     all = λ text n f.
         let v = f.seen in
@@ -241,10 +237,10 @@ module _ {line c s : List ℕ} {h : SessionState} where
         rw e f.to.ran;
   }
 
-  pub last_line : {line' c' s' : List ℕ} {r : Result Engine WriteFailed} → 0 < h.squeeze.length
+  pub last_line : {line' c' s' : List ℕ} {e' : Contents} → 0 < h.squeeze.length
       → length s' ≡ length s → FeedRequires (memory line c s) h
-      → AnswerEnsures (memory line c s) h.squeeze h.engine (memory line' c' s') (engine_of r)
-      → LastEnsures (memory line c s) h s' r
+      → AnswerEnsures (memory line c s) h.squeeze h.engine (memory line' c' s') e'
+      → LastEnsures (memory line c s) h s' e'
   last_line z n k a = record {
     all = λ text m f.
         let v = f.seen in

@@ -1,22 +1,20 @@
 -- The loop over the input.
-use Rattle.std.specs.Prelude.{◌≡◌, refl, ◌≢◌, [], ◌++◌, ℕ, zero, suc, ◌≤◌, length, take, Result, Ok, Err}
+use Rattle.std.specs.Prelude.{◌≡◌, refl, ◌≢◌, List, [], ◌++◌, ℕ, zero, suc, ◌≤◌, length, take, Ok, Err}
 use Rattle.std.proofs.Common.{subst}
 use Rattle.stdin.specs.Star.{none as noSteps, more}
 use Rattle.text.specs.Squeeze.{NoneEnsures}
-use Rattle.text.specs.Engine.{EngineStartEnsures}
-use Rattle.text.specs.declared.engine.Engine.{Engine}
+use Rattle.text.specs.Engine.{Contents, EngineStartEnsures}
 use Rattle.text.specs.declared.squeeze.Squeeze.{Squeeze}
-use Rattle.session.specs.Answer.{Memory, none}
+use Rattle.session.specs.Answer.{Memory, SessionState, none}
 use Rattle.session.specs.Feed.{FeedRequires, FeedInvariant}
 use Rattle.session.specs.FeedLaws.{after_none}
 use Rattle.session.specs.Input.{TakeEnsures, ReadEnsures, InputInvariant, ReceiveEnsures, ReceiveLoop}
-use Rattle.session.specs.declared.feed.SessionState.{SessionState}
 use Rattle.session.specs.declared.outcome.Stopped.{Stopped}
 use Rattle.session.specs.declared.outcome.Stopped.TheVariants.{ReadFailed, WriteFailed as Unwritten}
 use Rattle.text.specs.Limits.{line_room}
 
-pub input_start : {m : Memory} {q : Squeeze} {e : Engine} → line_room ≤ length m.line → NoneEnsures q
-    → EngineStartEnsures m.cache m.store e
+pub input_start : {m : Memory} {s₀ : List ℕ} {q : Squeeze} {e : Contents} → line_room ≤ length m.line → NoneEnsures q
+    → EngineStartEnsures m.cache s₀ m.store e
     → FeedInvariant [] 0 m (record { squeeze = q; engine = e })
 input_start {m} h b a = record {
   requires = record { room = h; fits = b.fits; invariant = a.invariant };
@@ -36,20 +34,21 @@ pub loop_requires : {m₀ : Memory} {h₀ : SessionState} {m : Memory} {h : Sess
     → FeedRequires m h
 loop_requires v = v.invariant.invariant.requires
 
-module _ {m₀ : Memory} {h₀ : SessionState} {m : Memory} {h : SessionState} (v : ReceiveLoop m₀ h₀ m h) {m' : Memory} where
-  take_more : {n : ℕ} {k : SessionState} → TakeEnsures n m h m' (Ok k) → InputInvariant m' k
+module _ {m₀ : Memory} {h₀ : SessionState} {m : Memory} {h : SessionState} (v : ReceiveLoop m₀ h₀ m h) {m' : Memory}
+    {h' : SessionState} where
+  take_more : {n : ℕ} → TakeEnsures n m h m' h' (Ok tt) → InputInvariant m' h'
   take_more {n} w =
       let i = v.invariant in
       let x = w.feeds.on i.text i.lines i.invariant in
       record { text = i.text ++ take n w.part; lines = x.lines; invariant = x.invariant }
 
-  pub receive_step : {k : SessionState} (n : ℕ) → n ≢ 0 → TakeEnsures n m h m' (Ok k) → ReceiveLoop m₀ h₀ m' k
+  pub receive_step : (n : ℕ) → n ≢ 0 → TakeEnsures n m h m' h' (Ok tt) → ReceiveLoop m₀ h₀ m' h'
   receive_step zero e w = absurd (e refl)
   receive_step (suc n) e w =
       record { invariant = take_more w; more = more v.more (record { more = n; read = w }) }
 
-  pub receive_end : {k : SessionState} {n : ℕ} → n ≡ 0 → TakeEnsures n m h m' (Ok k) → ReceiveEnsures m₀ h₀ m' (Ok k)
-  receive_end {k} e w =
+  pub receive_end : {n : ℕ} → n ≡ 0 → TakeEnsures n m h m' h' (Ok tt) → ReceiveEnsures m₀ h₀ m' h' (Ok tt)
+  receive_end e w =
       let i = take_more w in
       record {
         text = i.text;
@@ -57,19 +56,19 @@ module _ {m₀ : Memory} {h₀ : SessionState} {m : Memory} {h : SessionState} (
         reads = record {
           before = record { memory = m; state = h };
           more = v.more;
-          last = subst (λ n. TakeEnsures n m h m' (Ok k)) e w;
+          last = subst (λ n. TakeEnsures n m h m' h' (Ok tt)) e w;
         };
       }
 
-  received_failed : (e : Stopped) → ReadEnsures m h m' (Err e) → ReceiveEnsures m₀ h₀ m' (Err e)
-  received_failed (ReadFailed k) w =
+  pub receive_failed : (e : Stopped) → ReadEnsures m h m' h' (Err e) → ReceiveEnsures m₀ h₀ m' h' (Err e)
+  receive_failed ReadFailed w =
       let i = v.invariant in
       record {
         text = i.text;
         received = (i.lines, rw (w.0, w.1) i.invariant);
         reads = record { before = record { memory = m; state = h }; more = v.more; last = w };
       }
-  received_failed (Unwritten f) w =
+  receive_failed Unwritten w =
       let i = v.invariant in
       let x = w.1.feeds.on i.text i.lines i.invariant in
       record {
@@ -78,10 +77,6 @@ module _ {m₀ : Memory} {h₀ : SessionState} {m : Memory} {h : SessionState} (
         reads = record { before = record { memory = m; state = h }; more = v.more; last = w };
       }
 
-  pub receive_failed : {e : Stopped} {r : Result SessionState Stopped} → r ≡ Err e → ReadEnsures m h m' (Err e)
-      → ReceiveEnsures m₀ h₀ m' r
-  receive_failed {e} p w = rw p (received_failed e w)
-
 pub receive_none : {m₀ : Memory} {h₀ : SessionState} {m : Memory} {h : SessionState} → ReceiveLoop m₀ h₀ m h
-    → ReceiveEnsures m₀ h₀ m (Err (ReadFailed h))
-receive_none {h = h} v = received_failed v (ReadFailed h) (refl, refl)
+    → ReceiveEnsures m₀ h₀ m h (Err ReadFailed)
+receive_none v = receive_failed v ReadFailed (refl, refl)

@@ -1,23 +1,23 @@
 -- What the program promises of its input.
-use Rattle.std.specs.Prelude.{List, [], ℕ, Result}
+use Rattle.std.specs.Prelude.{List, [], ℕ, ⊤, Result}
 use Rattle.text.specs.Text.{Bytes}
-use Rattle.text.specs.declared.engine.Engine.{Engine}
-use Rattle.session.specs.Answer.{Memory}
+use Rattle.text.specs.Engine.{Contents}
+use Rattle.session.specs.Answer.{Memory, SessionState}
 use Rattle.session.specs.Feed.{FeedInvariant}
 use Rattle.session.specs.Input.{Reads}
 use Rattle.session.specs.Outcome.{AfterInput, FinishEnsures}
-use Rattle.session.specs.declared.feed.SessionState.{SessionState}
 use Rattle.session.specs.declared.outcome.Stopped.{Stopped}
 
 -- From a start at which nothing has come and no line was run, read after read until one does not bring more or an
 -- answer is not written, and then the end. What was run is that of the bytes that came, in order.
-pub record SessionEnsures (s' : List ℕ) (r : Result Engine Stopped) : Type 0 where
+pub record SessionEnsures (s' : List ℕ) (e' : Contents) (r : Result ⊤ Stopped) : Type 0 where
   pub before : Memory
   pub start : SessionState
   pub begins : FeedInvariant [] 0 before start
   pub memory : Memory
-  pub received : Result SessionState Stopped
-  pub reads : Reads before start memory received
-  pub finishes : FinishEnsures memory received s' r
+  pub state : SessionState
+  pub received : Result ⊤ Stopped
+  pub reads : Reads before start memory state received
+  pub finishes : FinishEnsures memory state received s' e' r
   pub text : Bytes
-  pub runs : AfterInput r text s'
+  pub runs : AfterInput r text s' e'

@@ -1,56 +1,64 @@
 // The answer to one line.
-ghost use Rattle.std.specs.Prelude.{◌≤◌, length};
-ghost use Rattle.session.specs.Answer.{memory, AnswerRequires, engine_of, AnswerEnsures, ReplyEnsures};
+ghost use Rattle.std.specs.Prelude.{◌≤◌, length, take};
+ghost use Rattle.session.specs.Answer.{memory_of, state_of, KeepsSession, AnswerRequires, AnswerEnsures, ReplyEnsures};
 ghost use Rattle.text.specs.Limits.{answer_room};
+ghost use Rattle.text.specs.Engine.{IsEngine, KeepsEngine};
+ghost use Rattle.text.specs.Progress.{Resumes};
 
 use std::io::{Print, Stdout};
 use text::engine::Engine;
 use text::limits::ANSWER_ROOM;
-use text::progress;
 use text::progress::Progress;
 use text::squeeze::Squeeze;
 
-// Writing an answer failed. The engine is the one after its line.
+// A session on standard input: the line that has come so far, squeezed into the front of `line`, and the engine after
+// the lines before it. The engine is a reference: were it held by value, no proof would know what its store holds once
+// the session is gone.
+#[derive(Drop)]
+pub struct Session<'l, 'b, 'a> {
+    pub line: &'l mut [u8],
+    pub squeeze: Squeeze,
+    pub engine: &'l mut Engine<'b, 'a>,
+}
+
+// Writing an answer failed.
 #[derive(Clone, Copy)]
-pub struct WriteFailed {
-    pub engine: Engine,
-}
+pub struct WriteFailed;
 
-// Puts the answer at the front of the output. The LF makes an empty line a line.
-fn reply(
-    line: &mut [u8],
-    store: &mut [u8],
-    cache: &mut [u64],
-    out: &mut [u8],
-    squeeze: Squeeze,
-    engine: Engine,
-) -> Progress
-    requires { AnswerRequires (memory line.old cache.old store.old) squeeze engine
-        × (answer_room ≤ length out.old) }
-    ensures { ReplyEnsures (memory line.old cache.old store.old) squeeze engine
-        (memory line.new cache.new store.new) out.new result }
-{
-    line[squeeze.length] = b'\n';
-    progress::resume(&line[..squeeze.length + 1], store, cache, out, 1, engine)
-}
-
-// Runs the line and writes its answer.
-pub fn answer(
-    stdout: Stdout,
-    line: &mut [u8],
-    store: &mut [u8],
-    cache: &mut [u64],
-    squeeze: Squeeze,
-    engine: Engine,
-) -> Result<Engine, WriteFailed>
-    requires { AnswerRequires (memory line.old cache.old store.old) squeeze engine }
-    ensures { AnswerEnsures (memory line.old cache.old store.old) squeeze engine
-        (memory line.new cache.new store.new) (engine_of result) }
-{
-    let mut out = [0u8; ANSWER_ROOM];
-    let Progress { engine, bytes, .. } = reply(line, store, cache, &mut out, squeeze, engine);
-    match stdout.write_all(&out[..bytes]) {
-        Ok(()) => Ok(engine),
-        Err(_) => Err(WriteFailed { engine }),
+impl<'l, 'b, 'a> Session<'l, 'b, 'a> {
+    // Puts the answer at the front of the output. The LF makes an empty line a line.
+    fn reply(&mut self, out: &mut [u8]) -> Progress
+        requires { AnswerRequires (memory_of self.old) self.old.squeeze (state_of self.old).engine
+            × (answer_room ≤ length out.old) }
+        ensures loans { KeepsSession self.old self.new }
+        ensures replies { ReplyEnsures (memory_of self.old) self.old.squeeze (state_of self.old).engine
+            (memory_of self.new) (state_of self.new).engine out.new result }
+    {
+        let length = self.squeeze.length;
+        let line = &mut *self.line;
+        line[length] = b'\n';
+        run_line(self.engine, line, length + 1, out)
     }
+
+    // Runs the line and writes its answer.
+    pub fn answer(&mut self, stdout: Stdout) -> Result<(), WriteFailed>
+        requires { AnswerRequires (memory_of self.old) self.old.squeeze (state_of self.old).engine }
+        ensures loans { KeepsSession self.old self.new }
+        ensures answers { AnswerEnsures (memory_of self.old) self.old.squeeze (state_of self.old).engine
+            (memory_of self.new) (state_of self.new).engine }
+    {
+        let mut out = [0u8; ANSWER_ROOM];
+        let bytes = self.reply(&mut out).bytes;
+        stdout.write_all(&out[..bytes]).map_err(|_| WriteFailed)
+    }
+}
+
+// Runs the line in the buffer's first bytes. It is no part of `reply`, since of a slice in a field nothing is known
+// after a part of it was lent.
+fn run_line(engine: &mut Engine, buffer: &[u8], end: usize, out: &mut [u8]) -> Progress
+    requires { IsEngine engine.old × (end ≤ length buffer.now) }
+    ensures loans { KeepsEngine engine.old engine.new }
+    ensures resumes { Resumes engine.old engine.new (take end buffer.now) 1 out.old out.new result }
+{
+    engine.resume(&buffer[..end], out, 1)
 }

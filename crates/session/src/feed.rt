@@ -1,79 +1,52 @@
 // An input's lines, from parts that end anywhere. After the first answer that could not be written no line is run:
 // answer k belongs to line k.
 ghost use Rattle.std.specs.Prelude.{[], ◌∷◌};
-ghost use Rattle.session.specs.Answer.{memory};
+ghost use Rattle.session.specs.Answer.{memory_of, state_of, KeepsSession};
 ghost use Rattle.session.specs.Feed.{FeedRequires, FeedEnsures, LastEnsures};
 
-use crate::answer;
-use crate::answer::WriteFailed;
+use crate::answer::{Session, WriteFailed};
 use std::io::Stdout;
-use text::engine::Engine;
 use text::squeeze::Squeeze;
 
-// The line that has come so far, and the engine after the lines before it.
-#[derive(Clone, Copy)]
-pub struct SessionState {
-    pub squeeze: Squeeze,
-    pub engine: Engine,
-}
-
-fn step(
-    stdout: Stdout,
-    line: &mut [u8],
-    store: &mut [u8],
-    cache: &mut [u64],
-    state: SessionState,
-    b: u8,
-) -> Result<SessionState, WriteFailed>
-    requires { FeedRequires (memory line.old cache.old store.old) state }
-    ensures { FeedEnsures (b ∷ []) (memory line.old cache.old store.old) state
-        (memory line.new cache.new store.new) result }
-{
-    let SessionState { squeeze, engine } = state;
-    if b == b'\n' {
-        let engine = answer::answer(stdout, line, store, cache, squeeze, engine)?;
-        let squeeze = Squeeze::none();
-        return Ok(SessionState { squeeze, engine });
+impl<'l, 'b, 'a> Session<'l, 'b, 'a> {
+    fn step(&mut self, stdout: Stdout, b: u8) -> Result<(), WriteFailed>
+        requires { FeedRequires (memory_of self.old) (state_of self.old) }
+        ensures loans { KeepsSession self.old self.new }
+        ensures feeds { FeedEnsures (b ∷ []) (memory_of self.old) (state_of self.old)
+            (memory_of self.new) (state_of self.new) result }
+    {
+        if b == b'\n' {
+            self.answer(stdout)?;
+            self.squeeze = Squeeze::none();
+            return Ok(());
+        }
+        self.squeeze = self.squeeze.push(self.line, b);
+        Ok(())
     }
-    let squeeze = squeeze.push(line, b);
-    Ok(SessionState { squeeze, engine })
-}
 
-// The bytes that come next.
-pub fn feed(
-    stdout: Stdout,
-    line: &mut [u8],
-    store: &mut [u8],
-    cache: &mut [u64],
-    mut state: SessionState,
-    part: &[u8],
-) -> Result<SessionState, WriteFailed>
-    requires { FeedRequires (memory line.old cache.old store.old) state }
-    ensures { FeedEnsures part.now
-        (memory line.old cache.old store.old) state
-        (memory line.new cache.new store.new) result }
-{
-    for b in part {
-        state = step(stdout, line, store, cache, state, *b)?;
+    // The bytes that come next.
+    pub fn feed(&mut self, stdout: Stdout, part: &[u8]) -> Result<(), WriteFailed>
+        requires { FeedRequires (memory_of self.old) (state_of self.old) }
+        ensures loans { KeepsSession self.old self.new }
+        ensures feeds { FeedEnsures part.now (memory_of self.old) (state_of self.old)
+            (memory_of self.new) (state_of self.new) result }
+    {
+        for b in part {
+            self.step(stdout, *b)?;
+        }
+        Ok(())
     }
-    Ok(state)
-}
 
-// "a last part without LF counts unless empty"; of a line that has a byte, one is kept.
-pub fn last(
-    stdout: Stdout,
-    line: &mut [u8],
-    store: &mut [u8],
-    cache: &mut [u64],
-    state: SessionState,
-) -> Result<Engine, WriteFailed>
-    requires { FeedRequires (memory line.old cache.old store.old) state }
-    ensures { LastEnsures (memory line.old cache.old store.old) state
-        store.new result }
-{
-    let SessionState { squeeze, engine } = state;
-    if 0 < squeeze.length {
-        return answer::answer(stdout, line, store, cache, squeeze, engine);
+    // "a last part without LF counts unless empty"; of a line that has a byte, one is kept.
+    pub fn last(&mut self, stdout: Stdout) -> Result<(), WriteFailed>
+        requires { FeedRequires (memory_of self.old) (state_of self.old) }
+        ensures loans { KeepsSession self.old self.new }
+        ensures ends { LastEnsures (memory_of self.old) (state_of self.old)
+            (memory_of self.new).store (state_of self.new).engine }
+    {
+        if 0 < self.squeeze.length {
+            return self.answer(stdout);
+        }
+        Ok(())
     }
-    Ok(engine)
 }

@@ -10,13 +10,15 @@ mod feed;
 mod input;
 mod outcome;
 
-ghost use Rattle.std.specs.Prelude.{◌≡◌, []};
+ghost use Rattle.std.specs.Prelude.{◌≡◌, ◌≤◌, length};
 ghost use Rattle.diagram.specs.Node.{capacity};
-ghost use Rattle.session.specs.Answer.{memory};
-ghost use Rattle.session.specs.Feed.{FeedInvariant};
 ghost use Rattle.session.specs.Session.{SessionEnsures};
+ghost use Rattle.text.specs.Engine.{Contents, contents, KeepsEngine};
+ghost use Rattle.text.specs.Limits.{line_room};
 
-use feed::SessionState;
+use answer::Session;
+use diagram::diagram::Diagram;
+use diagram::registers::Registers;
 use outcome::Stopped;
 use std::io::{Stdin, Stdout};
 use text::engine::Engine;
@@ -29,31 +31,40 @@ const STORE: usize = 32768;
 // 4096 remembered results of four words.
 const CACHE: usize = 16384;
 
-// The input to its end, and its last line.
-fn session(
-    input: Stdin,
+// From an engine with nothing in it: the input to its end, and its last line. The session is made here and not in `run`:
+// over variables of `run`, whose engine leads on to a parameter, no proof is generated.
+fn session<'l, 'b, 'a>(
+    stdin: Stdin,
     stdout: Stdout,
-    line: &mut [u8],
-    store: &mut [u8],
-    cache: &mut [u64],
-    start: SessionState,
-) -> Result<Engine, Stopped>
-    requires { FeedInvariant [] 0 (memory line.old cache.old store.old) start }
-    ensures { SessionEnsures store.new result }
+    line: &'l mut [u8],
+    engine: &'l mut Engine<'b, 'a>,
+) -> Result<(), Stopped>
+    requires { line_room ≤ length line.old }
+    ensures loans { KeepsEngine engine.old engine.new }
+    ensures session { SessionEnsures engine.new.diagram.now.store.now (contents engine.new) result }
 {
-    let received = input::receive(input, stdout, line, store, cache, start);
-    outcome::finish(stdout, line, store, cache, received)
+    engine.start();
+    let mut session = Session {
+        line,
+        squeeze: Squeeze::none(),
+        engine,
+    };
+    let received = session.receive(stdin, stdout);
+    session.finish(stdout, received)
 }
 
-fn run(input: Stdin, stdout: Stdout, store: &mut [u8], cache: &mut [u64]) -> Result<Engine, Stopped>
+// The engine is gone when it returns, and its nodes are in the store.
+fn run(stdin: Stdin, stdout: Stdout, store: &mut [u8], cache: &mut [u64]) -> Result<(), Stopped>
     requires { capacity store.old ≡ 2048 }
-    ensures { SessionEnsures store.new result }
+    ensures { (e : Contents) × SessionEnsures store.new e result }
 {
     let mut line = [0u8; LINE_ROOM];
-    let engine = engine::start(store, cache);
-    let squeeze = Squeeze::none();
-    let start = SessionState { squeeze, engine };
-    session(input, stdout, &mut line, store, cache, start)
+    let mut diagram = Diagram::over(store, cache);
+    let mut engine = Engine {
+        diagram: &mut diagram,
+        registers: Registers::empty(),
+    };
+    session(stdin, stdout, &mut line, &mut engine)
 }
 
 // The arrays as slices; their lengths are known here, and nothing has to count their elements.

@@ -1,52 +1,55 @@
 // How a session ends.
 ghost use Rattle.std.specs.Prelude.{◌≡◌};
-ghost use Rattle.session.specs.Answer.{memory};
+ghost use Rattle.session.specs.Answer.{memory_of, state_of, KeepsSession};
 ghost use Rattle.session.specs.Outcome.{FinishRequires, FinishEnsures};
-ghost use Rattle.session.specs.declared.outcome.Stopped.TheVariants.{WriteFailed as Unwritten};
+ghost use Rattle.session.specs.declared.outcome.Stopped.TheVariants.{ReadFailed as Unread, WriteFailed as Unwritten};
 
-use crate::answer::WriteFailed;
-use crate::feed;
-use crate::feed::SessionState;
+use crate::answer::{Session, WriteFailed};
 use std::fmt;
 use std::io::Stdout;
-use text::engine::Engine;
+use stdin::ReadFailed;
 
 // Reading failed, and the line that it cut was not run; or writing failed, and no line after that was run.
 #[derive(Clone, Copy)]
 pub enum Stopped {
-    ReadFailed(SessionState),
-    WriteFailed(WriteFailed),
+    ReadFailed,
+    WriteFailed,
+}
+
+impl From<ReadFailed> for Stopped {
+    ghost from_gives = { λ _ s. s ≡ Unread };
+
+    fn from(_e: ReadFailed) -> Stopped {
+        Stopped::ReadFailed
+    }
 }
 
 impl From<WriteFailed> for Stopped {
-    ghost from_gives = { λ e r. r ≡ Unwritten e };
+    ghost from_gives = { λ _ s. s ≡ Unwritten };
 
-    fn from(e: WriteFailed) -> Stopped {
-        Stopped::WriteFailed(e)
+    fn from(_e: WriteFailed) -> Stopped {
+        Stopped::WriteFailed
     }
 }
 
 impl fmt::Display for Stopped {
     fn fmt<W: fmt::Write>(&self, f: &mut fmt::Formatter<W>) -> fmt::Result {
         match self {
-            Stopped::ReadFailed(_) => write!(f, "reading failed"),
-            Stopped::WriteFailed(_) => write!(f, "writing failed"),
+            Stopped::ReadFailed => write!(f, "reading failed"),
+            Stopped::WriteFailed => write!(f, "writing failed"),
         }
     }
 }
 
-// No more is read. Where more could have come, the line that has begun is not run.
-pub fn finish(
-    stdout: Stdout,
-    line: &mut [u8],
-    store: &mut [u8],
-    cache: &mut [u64],
-    received: Result<SessionState, Stopped>,
-) -> Result<Engine, Stopped>
-    requires { FinishRequires (memory line.old cache.old store.old) received }
-    ensures { FinishEnsures (memory line.old cache.old store.old) received
-        store.new result }
-{
-    let state = received?;
-    Ok(feed::last(stdout, line, store, cache, state)?)
+impl<'l, 'b, 'a> Session<'l, 'b, 'a> {
+    // No more is read. Where more could have come, the line that has begun is not run.
+    pub fn finish(&mut self, stdout: Stdout, received: Result<(), Stopped>) -> Result<(), Stopped>
+        requires { FinishRequires (memory_of self.old) (state_of self.old) received }
+        ensures loans { KeepsSession self.old self.new }
+        ensures finishes { FinishEnsures (memory_of self.old) (state_of self.old) received
+            (memory_of self.new).store (state_of self.new).engine result }
+    {
+        received?;
+        Ok(self.last(stdout)?)
+    }
 }

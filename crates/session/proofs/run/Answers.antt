@@ -1,6 +1,6 @@
 use Rattle.std.proofs.Common.{rules}
-use Rattle.session.specs.InputLaws.{input_start}
+use Rattle.text.specs.Engine.{contents}
 use Rattle.session.proofs.run.Goals as goal
 
-pub session-requires : goal.session-requires
-session-requires c = search (rules, input_start)
+pub returns : goal.returns
+returns c = (contents c.session.new.engine, search (rules, c.session.ensures.session))

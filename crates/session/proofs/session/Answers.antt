@@ -1,5 +1,13 @@
+use Rattle.std.proofs.Common.{rules}
+use Rattle.session.specs.InputLaws.{input_start, session_start}
 use Rattle.session.specs.SessionLaws.{session_ensures}
 use Rattle.session.proofs.session.Goals as goal
 
-pub returns : goal.returns
-returns c = session_ensures c.requires c.receive-received.ensures c.finish.ensures
+pub receive-received-requires : goal.receive-received-requires
+receive-received-requires c = session_start (input_start c.requires c.none.ensures c.start.ensures.start)
+
+pub returns-clause-session : goal.returns-clause-session
+returns-clause-session c =
+    let v = session_ensures (input_start c.requires c.none.ensures c.start.ensures.start)
+    c.receive-received.ensures.receives c.finish.ensures.finishes in
+    search (rules, v)
