@@ -1,32 +1,28 @@
 -- A leaf, a pair of leaves, and one pair more.
-use Rattle.std.specs.Prelude.{◌≡◌, List, ℕ, ◌<◌}
+use Rattle.std.specs.Prelude.{false, ◌≡◌, ℕ, ◌<◌, Result, Ok, Err, is_err}
 use Rattle.std.proofs.Common.{ap, sym, subst, ◌∙◌, arith}
 use Rattle.diagram.specs.Weights.{modulus}
 use Rattle.diagram.specs.Tensor.{index_count, indices, Tensor}
-use Rattle.diagram.specs.Tally.{Step, join}
-use Rattle.diagram.specs.Store.{set_of, tensor_of, Sound, RefinesEdge, Refines}
-use Rattle.diagram.specs.Join.{JoinRequires}
-use Rattle.diagram.specs.Restore.{RollbackRequires}
+use Rattle.diagram.specs.Tally.{Step}
+use Rattle.diagram.specs.Store.{set_of}
+use Rattle.diagram.specs.Diagram.{IsSound, tensor, Joinable, KeepsCache, Does}
 use Rattle.diagram.specs.Top.{FreeBelow}
 use Rattle.diagram.specs.TopLaws.{free_below_constant, free_below_joined}
 use Rattle.diagram.specs.SetsLaws.{prefix_trans}
 use Rattle.diagram.specs.TallyStepLaws.{join_meaning}
 use Rattle.diagram.specs.MeaningLaws.{valid_more}
-use Rattle.diagram.specs.StoreLaws.{refines_edge, refines_full, tensor_kept, kept_after, refines_count}
-use Rattle.diagram.specs.RestoreLaws.{rollback_of}
+use Rattle.diagram.specs.StoreLaws.{tensor_kept, kept_after, refines_count}
 use Rattle.diagram.specs.BuildLaws.{constant_valid, constant_tensor}
 use Rattle.diagram.specs.CacheLaws.{remembers_more}
 use Rattle.diagram.specs.declared.node.Edge.{Edge}
-use Rattle.diagram.specs.declared.make.State.{State}
-use Rattle.diagram.specs.declared.join.Outcome.{Outcome}
-use Rattle.diagram.specs.declared.join.Outcome.TheVariants as outcome
+use Rattle.diagram.specs.declared.diagram.Diagram.{Diagram}
+use Rattle.diagram.specs.declared.diagram.Full.{Full}
 use Rattle.fill.specs.Fill.{FillInvariant, constant_edge, LeafEnsures, NodesGrown, NodesSame, PairEnsures}
 
 -- a leaf joins two constants
 
-pub leaf_joinable : {s : List ℕ} {st : State} {w : ℕ} → Sound s st → w < modulus
-    → JoinRequires s st 23 (constant_edge 1) (constant_edge w)
-leaf_joinable {w = w} h p =
+pub leaf_joinable : (d : Diagram) {w : ℕ} → IsSound d → w < modulus → Joinable d 23 (constant_edge 1) (constant_edge w)
+leaf_joinable d {w} h p =
     record {
       inside = omega arith;
       low = constant_valid (omega arith);
@@ -35,84 +31,73 @@ leaf_joinable {w = w} h p =
       from_high = rw (constant_tensor w h) (free_below_constant index_count indices _);
     }
 
-leaf_from : {s s' : List ℕ} {st st' : State} {e : Edge} (w : ℕ) → Sound s st
-    → RefinesEdge s s' st st' (join 23 (tensor_of s st (constant_edge 1)) (tensor_of s st (constant_edge w))) e
-    → FreeBelow 23 (tensor_of s' st' e)
-leaf_from {s} {s'} {st} {st'} {e} w h d =
-    let L : Tensor indices = tensor_of s st (constant_edge 1) in
-    let H : Tensor indices = tensor_of s st (constant_edge w) in
-    subst (FreeBelow 23) (sym (ap (λ r. r.0) (sym d.is) ∙ join_meaning 23 L H (set_of s st)))
+leaf_from : (d d' : Diagram) {e : Edge} (w : ℕ) → IsSound d → LeafEnsures d d' w (Ok e) → FreeBelow 23 (tensor d' e)
+leaf_from d d' w h r =
+    let L : Tensor indices = tensor d (constant_edge 1) in
+    let H : Tensor indices = tensor d (constant_edge w) in
+    subst (FreeBelow 23) (sym (ap (λ r. r.0) (sym r.is) ∙ join_meaning 23 L H (set_of d.store.now d.state)))
     (free_below_joined 23 23 L H (omega arith) (rw (constant_tensor 1 h) (free_below_constant 23 indices _))
     (rw (constant_tensor w h) (free_below_constant 23 indices _)))
 
--- a pair: two leaves, answered by r and r', and their join
-module _ (s s₁ : List ℕ) (st : State) (a : ℕ) (held : Sound s st) (r : Outcome) (first : LeafEnsures s s₁ st a r) where
-  pub first_full : r ≡ outcome.Full → NodesSame s s₁ st
-  first_full e = let o = refines_full _ r first e in record { long = o.long; kept = o.kept }
+-- a pair: two leaves and their join, of which each may not fit. That the cache is kept says which diagrams they are.
 
-  module _ {t : State} {l : Edge} (some : r ≡ outcome.Edge l t) where
-    d : RefinesEdge s s₁ st t (join 23 (tensor_of s st (constant_edge 1)) (tensor_of s st (constant_edge a))) l
-    d = refines_edge _ r first some
+module _ {d d₁ d₂ : Diagram} (kept : KeepsCache d d₁) (a : ℕ) {l : Edge} (first : LeafEnsures d d₁ a (Ok l))
+    (kept' : KeepsCache d₁ d₂) (b : ℕ) where
+  pub second_full : {x : Full} → LeafEnsures d₁ d₂ b (Err x) → NodesSame d d₂
+  second_full r = record {
+    long = r.long ∙ first.long;
+    kept =
+        kept_after d.store.now d₁.store.now d₂.store.now d.state d₁.state (refines_count first) first.grown r.kept;
+  }
 
-    pub first_sound : Sound s₁ t
-    first_sound = d.sound
-
-    module _ (s₂ : List ℕ) (b : ℕ) (r' : Outcome) (second : LeafEnsures s₁ s₂ t b r') where
-      pub second_full : r' ≡ outcome.Full → NodesSame s s₂ st
-      second_full e =
-          let o = refines_full _ r' second e in
-          record { long = o.long ∙ d.long; kept = kept_after s s₁ s₂ st t (refines_count d) d.grown o.kept }
-
-      module _ {u : State} {h : Edge} (some' : r' ≡ outcome.Edge h u) where
-        d' : RefinesEdge s₁ s₂ t u (join 23 (tensor_of s₁ t (constant_edge 1)) (tensor_of s₁ t (constant_edge b))) h
-        d' = refines_edge _ r' second some'
-
-        more : NodesGrown s s₂ st u
-        more =
-            record {
-              long = d'.long ∙ d.long;
-              sound = d'.sound;
-              epoch = d'.epoch ∙ d.epoch;
-              count = omega (arith, refines_count d, refines_count d');
-              grown = prefix_trans d.grown d'.grown;
-            }
-
-        -- the nodes so far, and what is left to join
-        pub both : NodesGrown s s₂ st u × JoinRequires s₂ u 22 l h
-        both = (
-          more,
-          record {
-            inside = omega arith;
-            low = valid_more _ (refines_count d') d.valid;
-            high = d'.valid;
-            from_low = rw (tensor_kept s₁ s₂ t u d'.grown d.valid) (leaf_from a held d);
-            from_high = leaf_from b d.sound d';
-          },
-        )
-
-pub pair_does : (s s₂ s₃ : List ℕ) (st u : State) (f : Step indices) (r : Outcome) → NodesGrown s s₂ st u
-    → Refines s₂ s₃ u f r → PairEnsures s s₃ st r
-pair_does s s₂ s₃ st u f (outcome.Edge e t) m d =
-    record {
-      long = d.long ∙ m.long;
-      sound = d.sound;
-      epoch = d.epoch ∙ m.epoch;
-      count = omega (arith, m.count, refines_count d);
-      grown = prefix_trans m.grown d.grown;
+  module _ {h : Edge} (second : LeafEnsures d₁ d₂ b (Ok h)) where
+    pub leaves_joinable : IsSound d → Joinable d₂ 22 l h
+    leaves_joinable held = record {
+      inside = omega arith;
+      low = valid_more _ (refines_count second) first.valid;
+      high = second.valid;
+      from_low =
+          rw (tensor_kept d₁.store.now d₂.store.now d₁.state d₂.state second.grown first.valid)
+          (leaf_from d d₁ a held first);
+      from_high = leaf_from d₁ d₂ b first.sound second;
     }
-pair_does s s₂ s₃ st u f outcome.Full m d =
-    record { long = d.long ∙ m.long; kept = kept_after s s₂ s₃ st u m.count m.grown d.kept }
 
--- one pair more, or the nodes as they were
+    both : NodesGrown d d₂
+    both = record {
+      long = second.long ∙ first.long;
+      sound = second.sound;
+      epoch = second.epoch ∙ first.epoch;
+      count = omega (arith, refines_count first, refines_count second);
+      grown = prefix_trans first.grown second.grown;
+    }
 
-pub invariant_more : {c s s' : List ℕ} {st t : State} {e : Edge} (r : Outcome) → FillInvariant c s st
-    → PairEnsures s s' st r → r ≡ outcome.Edge e t → FillInvariant c s' t
-invariant_more {c} {s} {s'} {st} {t} r p q e =
-    let m : NodesGrown s s' st t = subst (PairEnsures s s' st) e q in
-    record { sound = m.sound; cache = remembers_more s s' st t m.grown m.epoch m.count p.cache }
+    pub pair_does : {d₃ : Diagram} → KeepsCache d₂ d₃ → (f : Step indices) (r : Result Edge Full) → Does d₂ d₃ f r
+        → PairEnsures d d₃ r
+    pair_does k f (Ok e) t =
+        let m : NodesGrown d d₂ = both in
+        record {
+          long = t.long ∙ m.long;
+          sound = t.sound;
+          epoch = t.epoch ∙ m.epoch;
+          count = omega (arith, m.count, refines_count t);
+          grown = prefix_trans m.grown t.grown;
+        }
+    pair_does {d₃} k f (Err x) t =
+        let m : NodesGrown d d₂ = both in
+        record {
+          long = t.long ∙ m.long;
+          kept = kept_after d.store.now d₂.store.now d₃.store.now d.state d₂.state m.count m.grown t.kept;
+        }
 
-pub invariant_left : {c s s' : List ℕ} {st : State} (r : Outcome) → FillInvariant c s st → PairEnsures s s' st r
-    → r ≡ outcome.Full → RollbackRequires c s' st
-invariant_left {s = s} {s' = s'} {st = st} r p q e =
-    let m : NodesSame s s' st = subst (PairEnsures s s' st) e q in
-    rollback_of p.sound m.long m.kept p.cache.past
+-- one pair more
+
+pub invariant_more : {d d' : Diagram} (r : Result Edge Full) → FillInvariant d → KeepsCache d d' → PairEnsures d d' r
+    → is_err r ≡ false → FillInvariant d'
+invariant_more {d} {d'} (Ok e) p k m q =
+    record {
+      sound = m.sound;
+      cache =
+          rw k.same_words
+          (remembers_more d.store.now d'.store.now d.state d'.state m.grown m.epoch m.count p.cache);
+    }
+invariant_more (Err x) p k m q = absurd (cc)

@@ -2,154 +2,136 @@
 ghost use Rattle.std.specs.Prelude.{◌≤◌, ◌<◌};
 ghost use Rattle.diagram.specs.Tensor.{masks};
 ghost use Rattle.diagram.specs.Entry.{QubitsInRange};
-ghost use Rattle.diagram.specs.Meaning.{Valid};
-ghost use Rattle.diagram.specs.Lower.{LowerRequires};
-ghost use Rattle.diagram.specs.Registers.{RegistersValid};
-ghost use Rattle.diagram.specs.Restore.{RollbackRequires};
-ghost use Rattle.diagram.specs.Invariant.{Invariant};
+ghost use Rattle.diagram.specs.Diagram.{IsEdge, MayLower};
+ghost use Rattle.replay.specs.Replay.{IsReplay, MaySettle};
 
+use diagram::diagram::{Diagram, Full};
 use diagram::gate::{Gate, QubitCount};
-use diagram::join::Outcome;
 use diagram::make::State;
 use diagram::node::{Edge, Index, Mask};
 use diagram::registers::{RegisterNumber, Registers};
-use diagram::{build, collect, contract, lower, restore, support, unit};
-use std::io::{Print, Stdout};
+use std::io::Stdout;
 
-#[derive(Clone, Copy)]
-pub struct Run {
-    pub state: State,
+// A diagram, the registers that hold edges of it, and where their contents are printed.
+#[derive(Drop)]
+pub struct Replay<'a> {
+    pub stdout: Stdout,
+    pub diagram: Diagram<'a>,
     pub registers: Registers,
 }
 
-// The nodes as they were before a call that did not fit.
-fn refuse(stdout: Stdout, store: &mut [u8], cache: &mut [u64], run: Run) -> Run
-    requires { RollbackRequires cache.old store.old run.state
-        × RegistersValid run.state.count run.registers.all }
-    ensures { Invariant cache.new store.new result.state result.registers.all }
-{
-    stdout.write_all(b"full\n").unwrap_or(());
-    let state = restore::rollback(store, cache, run.state);
-    let registers = run.registers;
-    Run { state, registers }
-}
-
-// Register d is a gate.
-pub fn gate(
-    stdout: Stdout,
-    store: &mut [u8],
-    cache: &mut [u64],
-    run: Run,
-    d: RegisterNumber,
-    g: Gate,
-) -> Run
-    requires { Invariant cache.old store.old run.state run.registers.all × (QubitsInRange g × (d < 16)) }
-    ensures { Invariant cache.new store.new result.state result.registers.all }
-{
-    let Outcome::Edge(e, state) = build::gate(store, run.state, g) else {
-        return refuse(stdout, store, cache, run);
-    };
-    let mut registers = run.registers;
-    registers.put(d, e);
-    Run { state, registers }
-}
-
-// Register d is the product of two edges, added over the indices of m.
-fn multiply(
-    stdout: Stdout,
-    store: &mut [u8],
-    cache: &mut [u64],
-    run: Run,
-    d: RegisterNumber,
-    a: Edge,
-    b: Edge,
-    m: Mask,
-) -> Run
-    requires { Invariant cache.old store.old run.state run.registers.all ×
-        (Valid run.state.count a × (Valid run.state.count b × ((d < 16) × (m < masks)))) }
-    ensures { Invariant cache.new store.new result.state result.registers.all }
-{
-    let Outcome::Edge(e, state) = contract::contract(store, cache, run.state, a, b, m) else {
-        return refuse(stdout, store, cache, run);
-    };
-    let mut registers = run.registers;
-    registers.put(d, e);
-    Run { state, registers }
-}
-
-// Register d is the product of registers 0 and 1, if they are filled.
-pub fn cont(
-    stdout: Stdout,
-    store: &mut [u8],
-    cache: &mut [u64],
-    run: Run,
-    d: RegisterNumber,
-    m: Mask,
-) -> Run
-    requires { Invariant cache.old store.old run.state run.registers.all × ((d < 16) × (m < masks)) }
-    ensures { Invariant cache.new store.new result.state result.registers.all }
-{
-    let Some(a) = run.registers.get(0) else {
-        return run;
-    };
-    let Some(b) = run.registers.get(1) else {
-        return run;
-    };
-    multiply(stdout, store, cache, run, d, a, b, m)
-}
-
-// A collection, or nothing.
-pub fn tidy(store: &mut [u8], cache: &mut [u64], run: Run, collecting: bool) -> Run
-    requires { Invariant cache.old store.old run.state run.registers.all }
-    ensures { Invariant cache.new store.new result.state result.registers.all }
-{
-    if collecting {
-        let r = collect::collect(store, cache, run.state, run.registers);
-        let state = r.state;
-        let registers = r.registers;
-        return Run { state, registers };
+impl<'a> Replay<'a> {
+    // No nodes, and empty registers.
+    pub fn start(stdout: Stdout, store: &'a mut [u8], cache: &'a mut [u64]) -> Replay<'a>
+        ensures { IsReplay result }
+    {
+        let mut diagram = Diagram::over(store, cache);
+        diagram.start();
+        Replay {
+            stdout,
+            diagram,
+            registers: Registers::empty(),
+        }
     }
-    run
-}
 
-// Register 0 is the unit on n qubits.
-pub fn unit(stdout: Stdout, store: &mut [u8], cache: &mut [u64], run: Run, n: QubitCount) -> Run
-    requires { Invariant cache.old store.old run.state run.registers.all × (n ≤ 8) }
-    ensures { Invariant cache.new store.new result.state result.registers.all }
-{
-    let Outcome::Edge(e, state) = unit::unit(store, run.state, n) else {
-        return refuse(stdout, store, cache, run);
-    };
-    let mut registers = run.registers;
-    registers.put(0, e);
-    Run { state, registers }
-}
-
-// Register 0 is an edge's tensor with index k renamed k - 1.
-fn rename(stdout: Stdout, store: &mut [u8], cache: &mut [u64], run: Run, a: Edge, k: Index) -> Run
-    requires { Invariant cache.old store.old run.state run.registers.all ×
-        (Valid run.state.count a × LowerRequires store.old run.state a k) }
-    ensures { Invariant cache.new store.new result.state result.registers.all }
-{
-    let Outcome::Edge(e, state) = lower::lower(store, cache, run.state, a, k) else {
-        return refuse(stdout, store, cache, run);
-    };
-    let mut registers = run.registers;
-    registers.put(0, e);
-    Run { state, registers }
-}
-
-// The same for what register 0 holds, where that does not depend on k - 1.
-pub fn low(stdout: Stdout, store: &mut [u8], cache: &mut [u64], run: Run, k: Index) -> Run
-    requires { Invariant cache.old store.old run.state run.registers.all × ((1 ≤ k) × (k ≤ 23)) }
-    ensures { Invariant cache.new store.new result.state result.registers.all }
-{
-    let Some(a) = run.registers.get(0) else {
-        return run;
-    };
-    let j = k - 1;
-    if support::depends(store, run.state, a, j) {
-        return run;
+    // Register d is set to the edge of a step; or the step did not fit, and the nodes are those before it.
+    fn settle(&mut self, before: State, d: RegisterNumber, step: Result<Edge, Full>)
+        requires { MaySettle self.old before step × (d < 16) }
+        ensures { IsReplay self.new }
+    {
+        match step {
+            Ok(e) => self.registers.put(d, e),
+            Err(_) => {
+                println!(self.stdout; "full").unwrap_or(());
+                self.diagram.rollback(before);
+            }
+        }
     }
-    rename(stdout, store, cache, run, a, k)
+
+    // Register d is a gate.
+    pub fn gate(&mut self, d: RegisterNumber, g: Gate)
+        requires { IsReplay self.old × (QubitsInRange g × (d < 16)) }
+        ensures { IsReplay self.new }
+    {
+        let before = self.diagram.state;
+        let step = self.diagram.gate(g);
+        self.settle(before, d, step);
+    }
+
+    // Register d is the product of two edges, added over the indices of m.
+    fn multiply(&mut self, d: RegisterNumber, a: Edge, b: Edge, m: Mask)
+        requires { IsReplay self.old ×
+            (IsEdge self.old.diagram a × (IsEdge self.old.diagram b × ((d < 16) × (m < masks)))) }
+        ensures { IsReplay self.new }
+    {
+        let before = self.diagram.state;
+        let step = self.diagram.contract(a, b, m);
+        self.settle(before, d, step);
+    }
+
+    // Register d is the product of registers 0 and 1, if they are filled.
+    pub fn cont(&mut self, d: RegisterNumber, m: Mask)
+        requires { IsReplay self.old × ((d < 16) × (m < masks)) }
+        ensures { IsReplay self.new }
+    {
+        let Some(a) = self.registers.get(0) else {
+            return;
+        };
+        let Some(b) = self.registers.get(1) else {
+            return;
+        };
+        self.multiply(d, a, b, m);
+    }
+
+    // Of the nodes only those stay that the registers reach.
+    pub fn collect(&mut self)
+        requires { IsReplay self.old }
+        ensures { IsReplay self.new }
+    {
+        self.registers = self.diagram.collect(self.registers);
+    }
+
+    // A collection, or nothing.
+    pub fn tidy(&mut self, collecting: bool)
+        requires { IsReplay self.old }
+        ensures { IsReplay self.new }
+    {
+        if collecting {
+            self.collect();
+        }
+    }
+
+    // Register 0 is the unit on n qubits.
+    pub fn unit(&mut self, n: QubitCount)
+        requires { IsReplay self.old × (n ≤ 8) }
+        ensures { IsReplay self.new }
+    {
+        let before = self.diagram.state;
+        let step = self.diagram.unit(n);
+        self.settle(before, 0, step);
+    }
+
+    // Register 0 is an edge's tensor with index k renamed k - 1.
+    fn lower(&mut self, a: Edge, k: Index)
+        requires { IsReplay self.old × (IsEdge self.old.diagram a × MayLower self.old.diagram a k) }
+        ensures { IsReplay self.new }
+    {
+        let before = self.diagram.state;
+        let step = self.diagram.lower(a, k);
+        self.settle(before, 0, step);
+    }
+
+    // The same for what register 0 holds, where that does not depend on k - 1.
+    pub fn low(&mut self, k: Index)
+        requires { IsReplay self.old × ((1 ≤ k) × (k ≤ 23)) }
+        ensures { IsReplay self.new }
+    {
+        let Some(a) = self.registers.get(0) else {
+            return;
+        };
+        if self.diagram.depends(a, k - 1) {
+            return;
+        }
+        self.lower(a, k);
+    }
 }

@@ -18,86 +18,70 @@ mod circuit;
 mod show;
 
 ghost use Rattle.std.specs.Prelude.{◌≡◌};
-ghost use Rattle.diagram.specs.Registers.{RegistersValid};
-ghost use Rattle.diagram.specs.Store.{Sound};
-ghost use Rattle.diagram.specs.Invariant.{Invariant};
 ghost use Rattle.diagram.specs.Entry.{QubitsInRange};
-ghost use Rattle.replay.specs.Replay.{cleared};
+ghost use Rattle.replay.specs.Replay.{cleared, IsReplay, MayRead};
 
-use calls::Run;
+use calls::Replay;
+use circuit::middle;
 use diagram::gate::Gate;
-use diagram::node::Mask;
 use diagram::registers::Registers;
-use diagram::restore;
-use std::io::Stdout;
-
-// The index that is added over: the middle of qubit 0.
-const MIDDLE: Mask = 2;
-
-// Two gates, and their product over the middle.
-fn product(stdout: Stdout, store: &mut [u8], cache: &mut [u64], run: Run, g: Gate, h: Gate) -> Run
-    requires { Invariant cache.old store.old run.state run.registers.all
-        × (QubitsInRange g × QubitsInRange h) }
-    ensures { Invariant cache.new store.new result.state result.registers.all }
-{
-    let one = calls::gate(stdout, store, cache, run, 0, g);
-    let two = calls::gate(stdout, store, cache, one, 1, h);
-    calls::cont(stdout, store, cache, two, 2, MIDDLE)
-}
-
-// The gates, their product and the count of the nodes.
-fn report(stdout: Stdout, store: &[u8], run: Run)
-    requires { Sound store.now run.state × RegistersValid run.state.count run.registers.all }
-{
-    show::register(stdout, store, run, 0);
-    show::register(stdout, store, run, 1);
-    show::register(stdout, store, run, 2);
-    show::count(stdout, run);
-}
 
 // Empties the three registers.
-fn forget(run: Run) -> Run
-    ensures { (result.state ≡ run.state) × (result.registers.all ≡ cleared run.registers.all) }
+fn forget(registers: &mut Registers)
+    ensures { registers.new.all ≡ cleared registers.old.all }
 {
-    let state = run.state;
-    let mut registers = run.registers;
     registers.clear(0);
     registers.clear(1);
     registers.clear(2);
-    Run { state, registers }
 }
 
-// The second pair of gates, after the first is dropped.
-fn again(stdout: Stdout, store: &mut [u8], cache: &mut [u64], run: Run, collecting: bool)
-    requires { Invariant cache.old store.old run.state run.registers.all }
-{
-    let left = forget(run);
-    let next = calls::tidy(store, cache, left, collecting);
-    show::count(stdout, next);
-    let last = product(stdout, store, cache, next, Gate::X(0), Gate::Y(0));
-    report(stdout, store, last);
-}
+impl<'a> Replay<'a> {
+    // Two gates, and their product over the middle of qubit 0.
+    fn product(&mut self, g: Gate, h: Gate)
+        requires { IsReplay self.old × (QubitsInRange g × QubitsInRange h) }
+        ensures { IsReplay self.new }
+    {
+        self.gate(0, g);
+        self.gate(1, h);
+        self.cont(2, middle(0));
+    }
 
-fn replay(stdout: Stdout, store: &mut [u8], cache: &mut [u64], collecting: bool) {
-    let state = restore::start(store, cache);
-    let registers = Registers::empty();
-    let run = product(
-        stdout,
-        store,
-        cache,
-        Run { state, registers },
-        Gate::Z(0),
-        Gate::S(0),
-    );
-    report(stdout, store, run);
-    again(stdout, store, cache, run, collecting);
+    // The gates, their product and the count of the nodes.
+    fn report(&self)
+        requires { MayRead self.now }
+    {
+        for i in 0..3 {
+            self.register(i);
+        }
+        self.count();
+    }
+
+    // The second pair of gates, after the first is dropped.
+    fn again(&mut self, collecting: bool)
+        requires { IsReplay self.old }
+    {
+        forget(&mut self.registers);
+        self.tidy(collecting);
+        self.count();
+        self.product(Gate::X(0), Gate::Y(0));
+        self.report();
+    }
+
+    // Both pairs of gates, with a collection between them or without one.
+    fn products(&mut self, collecting: bool)
+        requires { IsReplay self.old }
+    {
+        self.product(Gate::Z(0), Gate::S(0));
+        self.report();
+        self.again(collecting);
+    }
 }
 
 fn main(rt: HostRuntime) {
     let stdout = rt.stdout();
     let mut store = [0u8; 32768];
     let mut cache = [0u64; 256];
-    replay(stdout, &mut store, &mut cache, true);
-    replay(stdout, &mut store, &mut cache, false);
-    circuit::run(stdout, &mut store, &mut cache);
+    Replay::start(stdout, &mut store, &mut cache).products(true);
+    Replay::start(stdout, &mut store, &mut cache).products(false);
+    Replay::start(stdout, &mut store, &mut cache).circuit();
 }

@@ -1,6 +1,5 @@
-use borrow.Author.Rules.{rules}
 use Rattle.fill.specs.FillLaws.{leaf_joinable}
 use Rattle.fill.proofs.leaf.Goals as goal
 
 pub join-requires : goal.join-requires
-join-requires c = search (rules, leaf_joinable)
+join-requires c = (c.requires.0, leaf_joinable c.args.d.now c.requires.0 c.requires.1)

@@ -1,26 +1,22 @@
-use borrow.Author.Rules.{rules}
-use Rattle.fill.specs.FillLaws.{first_full, first_sound, second_full, both, pair_does}
+use Rattle.std.proofs.lemmas.Result.{err_from_is_err_and}
+use Rattle.fill.specs.FillLaws.{second_full, leaves_joinable, pair_does}
 use Rattle.fill.proofs.pair.Goals as goal
 
-pub returns-in_default : goal.returns-in_default
-returns-in_default c = search (rules, first_full)
-
-pub leaf-requires-2 : goal.leaf-requires-2
-leaf-requires-2 c = search (rules, first_sound)
-
-pub returns-in_default-leaf : goal.returns-in_default-leaf
-returns-in_default-leaf c = search (rules, second_full)
+pub returns-in_err-h-clause-pair : goal.returns-in_err-h-clause-pair
+returns-in_err-h-clause-pair c =
+    let p = err_from_is_err_and c.from_residual-in_err-h.result c.from_residual-in_err-h.ensures.1 in
+    let l = c.in_ok-l.ensures in
+    let h = c.in_err-h.ensures in
+    rw p.1 (second_full l.cache _ l.leaf h.cache _ h.leaf)
 
 pub join-requires : goal.join-requires
 join-requires c =
-    let ready =
-    both _ _ _ _ c.requires.0 _ c.leaf.ensures c.in-Edge.is _ _ _
-    c.leaf-2.ensures c.in-Edge-leaf.is in
-    (ready.0.sound, ready.1)
+    let l = c.in_ok-l.ensures in
+    let h = c.in_ok-h.ensures in
+    (h.leaf.sound, leaves_joinable l.cache _ l.leaf h.cache _ h.leaf c.requires.0)
 
-pub returns : goal.returns
-returns c =
-    let ready =
-    both _ _ _ _ c.requires.0 _ c.leaf.ensures c.in-Edge.is _ _ _
-    c.leaf-2.ensures c.in-Edge-leaf.is in
-    pair_does _ _ _ _ _ _ c.join.result ready.0 c.join.ensures
+pub returns-clause-pair : goal.returns-clause-pair
+returns-clause-pair c =
+    let l = c.in_ok-l.ensures in
+    let h = c.in_ok-h.ensures in
+    pair_does l.cache _ l.leaf h.cache _ h.leaf c.join.ensures.cache _ c.join.result c.join.ensures.does
