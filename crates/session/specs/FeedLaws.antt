@@ -55,7 +55,8 @@ pub after_none : {s₀ c s : List ℕ} {e : Contents} → EngineStartEnsures c s
 unfolding run empty_run
 after_none a = record { output = []; is = λ room h. rw a.is }
 
-pub after_more : {ls : List Bytes} {s s' : List ℕ} {e n : Contents} (l : Bytes) → length s' ≡ length s → AfterLines ls s e
+pub after_more : {ls : List Bytes} {s s' : List ℕ} {e n : Contents} (l : Bytes) → length s' ≡ length s
+    → AfterLines ls s e
     → tally_of s' n ≡ (reply_to l s e).1
     → AfterLines (ls ++ (l ∷ [])) s' n
 unfolding run with_answer
@@ -188,7 +189,8 @@ feeds_then {p} {q} (Err _) f g = record {
   on = λ text n v.
       let x = f.on text n v in
       let y = g.on (text ++ p) x.lines x.invariant in
-      rw (← append_assoc text p q) (record { invariant = y.invariant; to = y.to; lost = omega (arith, x.more, y.lost) });
+      rw (← append_assoc text p q)
+      (record { invariant = y.invariant; to = y.to; lost = omega (arith, x.more, y.lost) });
 }
 
 -- bytes after an answer that could not be written
@@ -203,13 +205,19 @@ feeds_no_more {p} q f = record {
 
 module _ (part : Bytes) {m m' m'' : Memory} {h h' h'' : SessionState} {i : ℕ} (l : i < length part)
     (f : FeedEnsures (take i part) m h m' h' (Ok tt)) where
-  pub feed_step : {r : Result ⊤ WriteFailed} → FeedEnsures (get_or part i 0 ∷ []) m' h' m'' h'' r
+  feeds_next : (r : Result ⊤ WriteFailed) → FeedEnsures (get_or part i 0 ∷ []) m' h' m'' h'' r
       → FeedEnsures (take (i + 1) part) m h m'' h'' r
-  feed_step {r} g = rw (add-one i, take-suc part i 0 l) (feeds_then r f g)
+  feeds_next r g = rw (add-one i, take-suc part i 0 l) (feeds_then r f g)
 
-  pub feed_lost : {w : WriteFailed} → FeedEnsures (get_or part i 0 ∷ []) m' h' m'' h'' (Err w)
+  pub feed_step : {r : Result ⊤ WriteFailed} → r ≡ Ok tt → FeedEnsures (get_or part i 0 ∷ []) m' h' m'' h'' r
+      → FeedEnsures (take (i + 1) part) m h m'' h'' (Ok tt)
+  feed_step {r} p g = rw p at (feeds_next r g)
+
+  pub feed_lost : {r : Result ⊤ WriteFailed} {w : WriteFailed} → r ≡ Err w
+      → FeedEnsures (get_or part i 0 ∷ []) m' h' m'' h'' r
       → FeedEnsures part m h m'' h'' (Err w)
-  feed_lost g = rw (take-append-drop (i + 1) part) at (feeds_no_more (drop (i + 1) part) (feed_step g))
+  feed_lost {r} p g =
+      rw (take-append-drop (i + 1) part) at (feeds_no_more (drop (i + 1) part) (rw p at (feeds_next r g)))
 
 -- the input's end
 

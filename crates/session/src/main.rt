@@ -31,8 +31,8 @@ const STORE: usize = 32768;
 // 4096 remembered results of four words.
 const CACHE: usize = 16384;
 
-// From an engine with nothing in it: the input to its end, and its last line. The session is made here and not in `run`:
-// over variables of `run`, whose engine leads on to a parameter, no proof is generated.
+// From an engine with nothing in it: the input to its end, and its last line. The session is made here and not in
+// `run`: over variables of `run`, whose engine leads on to a parameter, no proof is generated.
 fn session<'l, 'b, 'a>(
     stdin: Stdin,
     stdout: Stdout,
