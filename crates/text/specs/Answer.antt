@@ -5,8 +5,9 @@ use Rattle.text.specs.Limits.{last_weight, last_mask, answer_room}
 use Rattle.text.specs.Call.{refusal_number}
 use Rattle.text.specs.Print.{decimal, written}
 use Rattle.text.specs.declared.answer.Answer.{Answer}
-use Rattle.text.specs.declared.answer.Answer.TheVariants.{Done, Value, Same, Factor, Differ, Mask}
+use Rattle.text.specs.declared.answer.Answer.TheVariants.{Done, Value, Compared, Mask}
 use Rattle.text.specs.declared.call.Refusal.{Refusal}
+use Rattle.diagram.specs.declared.compare.Comparison.TheVariants.{Same, Factor, Differ}
 
 -- "An answer's fields are parted by one tab, and it ends in LF."
 unfoldable pub line_of_fields : List Bytes → Bytes
@@ -21,9 +22,9 @@ printed (Err r) = line_of_fields (bytes "no" ∷ decimal (refusal_number r) ∷ 
 -- "answers `v` and the value at assignment v"
 printed (Ok (Value w)) = line_of_fields (bytes "v" ∷ decimal w ∷ [])
 -- "answers `same`; or `factor` and f ..; else `differ`"
-printed (Ok Same) = line_of_fields (bytes "same" ∷ [])
-printed (Ok (Factor f)) = line_of_fields (bytes "factor" ∷ decimal f ∷ [])
-printed (Ok Differ) = line_of_fields (bytes "differ" ∷ [])
+printed (Ok (Compared Same)) = line_of_fields (bytes "same" ∷ [])
+printed (Ok (Compared (Factor f))) = line_of_fields (bytes "factor" ∷ decimal f ∷ [])
+printed (Ok (Compared Differ)) = line_of_fields (bytes "differ" ∷ [])
 -- "A new call `on a` answers `m` and the register's mask"
 printed (Ok (Mask m)) = line_of_fields (bytes "m" ∷ decimal m ∷ [])
 
@@ -32,9 +33,9 @@ abbrev pub SmallAnswer : Result Answer Refusal → Type 0
 SmallAnswer (Ok (Done n)) = n ≤ last_weight
 SmallAnswer (Err r) = Unit
 SmallAnswer (Ok (Value w)) = w ≤ last_weight
-SmallAnswer (Ok Same) = Unit
-SmallAnswer (Ok (Factor f)) = f ≤ last_weight
-SmallAnswer (Ok Differ) = Unit
+SmallAnswer (Ok (Compared Same)) = Unit
+SmallAnswer (Ok (Compared (Factor f))) = f ≤ last_weight
+SmallAnswer (Ok (Compared Differ)) = Unit
 SmallAnswer (Ok (Mask m)) = m ≤ last_mask
 
 -- an answer is written at a place of l, and r is the place after it: at most 16 bytes

@@ -10,7 +10,8 @@ use Rattle.text.specs.Answer.{labelled_line, line_of_fields, printed, SmallAnswe
 use Rattle.text.specs.PrintLaws.{wrote_then, decimal_length, wrote_room}
 use Rattle.text.specs.declared.call.Refusal.{Refusal}
 use Rattle.text.specs.declared.answer.Answer.{Answer}
-use Rattle.text.specs.declared.answer.Answer.TheVariants.{Done, Value, Same, Factor, Differ, Mask}
+use Rattle.text.specs.declared.answer.Answer.TheVariants.{Done, Value, Compared, Mask}
+use Rattle.diagram.specs.declared.compare.Comparison.TheVariants.{Same, Factor, Differ}
 use Rattle.text.specs.declared.call.Refusal.TheVariants as refusal
 
 module _ (word : Bytes) (n : ℕ) (short : length word < 8) (small : n ≤ last_mask) where
@@ -53,9 +54,9 @@ unfolding printed line_of_fields
 printed_short (Ok (Done n)) h = labelled_short (bytes "ok\t") n (omega arith) (weight_small h)
 printed_short (Err r) h = labelled_short (bytes "no\t") (refusal_number r) (omega arith) (refusal_small r)
 printed_short (Ok (Value w)) h = labelled_short (bytes "v\t") w (omega arith) (weight_small h)
-printed_short (Ok Same) h = omega arith
-printed_short (Ok (Factor f)) h = labelled_short (bytes "factor\t") f (omega arith) (weight_small h)
-printed_short (Ok Differ) h = omega arith
+printed_short (Ok (Compared Same)) h = omega arith
+printed_short (Ok (Compared (Factor f))) h = labelled_short (bytes "factor\t") f (omega arith) (weight_small h)
+printed_short (Ok (Compared Differ)) h = omega arith
 printed_short (Ok (Mask m)) h = labelled_short (bytes "m\t") m (omega arith) h
 
 pub answer_written : {l : Bytes} {at : ℕ} (a : Result Answer Refusal) {l' : Bytes} {e : ℕ} → SmallAnswer a

@@ -22,7 +22,7 @@ use Rattle.diagram.specs.CompareLaws.{grow_compared}
 use Rattle.text.specs.Text.{lines}
 use Rattle.text.specs.Limits.{answer_room}
 use Rattle.text.specs.Line.{read_line}
-use Rattle.text.specs.Session.{comparison, Capacity, fits, Tally, TallyReply, node_count, answer, answer_read, accept}
+use Rattle.text.specs.Session.{Capacity, fits, Tally, TallyReply, node_count, answer, answer_read, accept}
 use Rattle.text.specs.Session.{refuse}
 use Rattle.text.specs.Session.{settle, with_tensor, with_register, TallyRun, with_answer, stopped_run, run}
 use Rattle.text.specs.Session.{empty_tally, empty_run, session}
@@ -195,7 +195,7 @@ module _ {d : ℕ} (m : ℕ) where
   unfolding answer
   grow_cmp c a b t =
       grow_register_lem t a _ _ (λ A. grow_register_lem t b _ _
-      (λ B. ap (λ x. (Ok (comparison x), grow_tally m t)) (grow_compared m A B)))
+      (λ B. ap (λ x. (Ok (answers.Compared x), grow_tally m t)) (grow_compared m A B)))
 
   grow_on : (c : Capacity) (a : ℕ) (t : Tally d)
       → answer c (call.On a) (grow_tally m t) ≡ grow_reply m (answer c (call.On a) t)

@@ -12,7 +12,7 @@ use Rattle.text.specs.Answer.{SmallAnswer}
 use Rattle.text.specs.Session.{Capacity, answer, at_most}
 use Rattle.text.specs.Check.{lists, read_text, read_lines, gate_items, GoodText, Reading, fault, checked_of}
 use Rattle.text.specs.Check.{TextRead, CheckedInRange}
-use Rattle.text.specs.Ruling.{SmallRuling, RulingWritten, no_at}
+use Rattle.text.specs.Ruling.{Ruling, SmallRuling, RulingWritten, no_at}
 use Rattle.text.specs.VerdictSession.{ruling_of_answer, perform, ruling_at_end, list_calls, session_calls}
 use Rattle.text.specs.VerdictSession.{ruling_of_reading, ruling_on, verdict_result}
 use Rattle.text.specs.Engine.{Contents, Reply, tally_of, EngineStartEnsures}
@@ -26,8 +26,8 @@ use Rattle.text.specs.PrintLaws.{written_none}
 use Rattle.text.specs.CheckListsLaws.{items_next, text_items, good_text}
 use Rattle.text.specs.ListLaws.{ruling_refused}
 use Rattle.text.specs.declared.answer.Answer.{Answer}
-use Rattle.text.specs.declared.ruling.Ruling.{Ruling}
 use Rattle.diagram.specs.declared.gate.Gate.{Gate}
+use Rattle.diagram.specs.declared.compare.Comparison.{Comparison}
 use Rattle.text.specs.declared.check.Item.{Item}
 use Rattle.text.specs.declared.check.Fault.TheVariants.{Full}
 use Rattle.text.specs.declared.call.Refusal.{Refusal}
@@ -45,13 +45,11 @@ pub ruling_as : {a b : Result Answer Refusal} → a ≡ b → ruling_of_answer b
 ruling_as q = ap ruling_of_answer (sym q)
 
 small_ruling : (a : Result Answer Refusal) → SmallAnswer a → SmallRuling (Ok (ruling_of_answer a))
+small_ruling (Ok (answers.Compared r)) h = h
 small_ruling (Ok (answers.Done n)) h = tt
-small_ruling (Err r) h = tt
 small_ruling (Ok (answers.Value w)) h = tt
-small_ruling (Ok answers.Same) h = tt
-small_ruling (Ok (answers.Factor f)) h = h
-small_ruling (Ok answers.Differ) h = tt
 small_ruling (Ok (answers.Mask m)) h = tt
+small_ruling (Err r) h = tt
 
 -- the end of a session
 
@@ -76,7 +74,7 @@ module _ {l : GateList} {s c' s' : List ℕ} {a x : ListState} (w : ListEnsures 
         small = tt;
       }
 
-  pub second_ensures : {y : Reply} {r : Ruling} → length s' ≡ length s → x.refused ≡ false
+  pub second_ensures : {y : Reply} {r : Comparison} → length s' ≡ length s → x.refused ≡ false
       → RespondEnsures c' s' s' x.engine (call.Cmp 0 1) y → r ≡ ruling_of_answer y.answer
       → SecondEnsures l s a (Ok r)
   second_ensures {y} {r} m q u e = record {
@@ -167,7 +165,7 @@ module _ {text : Bytes} {n parting count : ℕ} (g : GoodText text n parting cou
         are = second_lines;
       }
 
-      pub judge_ensures : {r : Result Ruling FaultAt} → length s' ≡ length s₁
+      pub judge_ensures : {r : Ruling} → length s' ≡ length s₁
           → SecondEnsures second_gates s' (going x) r → JudgeEnsures text s r
       judge_ensures {r} k u =
           let e : x ≡ going x = λ i. record { refused = q i; line = x.line; place = x.place; engine = x.engine } in
@@ -214,7 +212,7 @@ unfolding verdict_result
 verdict_no_room {o = o} h =
     record { code = rw (lt-ltb _ _ h); bytes = rw (lt-ltb _ _ h); output = rw (lt-ltb _ _ h) (sym (written_none o 0)) }
 
-pub verdict_ensures : {text : Bytes} {s : List ℕ} {o o' : Bytes} {r : Result Ruling FaultAt} {m : ℕ} → verdict_room ≤ length o
+pub verdict_ensures : {text : Bytes} {s : List ℕ} {o o' : Bytes} {r : Ruling} {m : ℕ} → verdict_room ≤ length o
     → JudgeEnsures text s r → RulingWritten o r o' m
     → VerdictEnsures text s o o' (record { code = 0; bytes = m })
 unfolding verdict_result

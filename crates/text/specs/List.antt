@@ -3,6 +3,7 @@ use Rattle.std.specs.Prelude.{List, ◌++◌, [], ◌∷◌, ◌≡◌, Bool, fa
 use Rattle.text.specs.declared.check.Fault.{Fault}
 use Rattle.diagram.specs.Node.{capacity}
 use Rattle.text.specs.Text.{Bytes, LF, lines}
+use Rattle.text.specs.Ruling.{Ruling}
 use Rattle.text.specs.Session.{Capacity, at_most}
 use Rattle.text.specs.Check.{item_of, items, gate_items}
 use Rattle.text.specs.VerdictSession.{NumberedCall, gate_calls, at_line, gates_calls, list_calls}
@@ -11,8 +12,6 @@ use Rattle.text.specs.Engine.{Contents, contents, EngineInvariant, KeepsEngine, 
 use Rattle.text.specs.Perform.{PerformState, ruling_from}
 use Rattle.text.specs.declared.list.Lists.{Lists}
 use Rattle.text.specs.declared.call.Refusal.{Refusal}
-use Rattle.text.specs.declared.ruling.Ruling.{Ruling}
-use Rattle.text.specs.declared.check.FaultAt.{FaultAt}
 use Rattle.diagram.specs.declared.gate.Gate.{Gate}
 use Rattle.text.specs.declared.check.Item.{Item}
 use Rattle.text.specs.declared.call.Call.TheVariants as call
@@ -29,7 +28,7 @@ abbrev pub list_state_of : PerformState → ℕ → ℕ → ListState
 list_state_of r line place = record { refused = r.refused; line = line; place = place; engine = r.engine }
 
 -- the final ruling from here, where these calls follow
-unfoldable pub ruling_from_state : Capacity → List NumberedCall → List ℕ → ListState → Result Ruling FaultAt
+unfoldable pub ruling_from_state : Capacity → List NumberedCall → List ℕ → ListState → Ruling
 ruling_from_state c more s x = ruling_from c x.line more s (record { refused = x.refused; engine = x.engine })
 
 -- the calls xs were run, whatever follows

@@ -3,12 +3,10 @@ use Rattle.std.specs.Prelude.{cond, List, ◌++◌, ◌≡◌, ℕ, Bool, false,
 use Rattle.diagram.specs.Node.{capacity}
 use Rattle.text.specs.Session.{Capacity, at_most}
 use Rattle.text.specs.VerdictSession.{NumberedCall, perform, ruling_at_end, at_line}
-use Rattle.text.specs.Ruling.{no_at}
+use Rattle.text.specs.Ruling.{Ruling, no_at}
 use Rattle.text.specs.Engine.{Contents, contents, tally_of, EngineInvariant}
 use Rattle.text.specs.Apply.{drop_collect}
 use Rattle.text.specs.declared.call.Refusal.{Refusal}
-use Rattle.text.specs.declared.ruling.Ruling.{Ruling}
-use Rattle.text.specs.declared.check.FaultAt.{FaultAt}
 use Rattle.text.specs.declared.check.Fault.TheVariants.{Full}
 use Rattle.text.specs.declared.call.Call.{Call}
 use Rattle.text.specs.declared.engine.Engine.{Engine}
@@ -19,7 +17,7 @@ pub record PerformState : Type 0 where
   pub engine : Contents
 
 -- the final ruling from here: the calls before were refused at `line`, or others follow
-unfoldable pub ruling_from : Capacity → ℕ → List NumberedCall → List ℕ → PerformState → Result Ruling FaultAt
+unfoldable pub ruling_from : Capacity → ℕ → List NumberedCall → List ℕ → PerformState → Ruling
 ruling_from c line more s r = cond r.refused (no_at Full line) (ruling_at_end c (perform c more (tally_of s r.engine)))
 
 -- the calls xs were run, whatever their line and whatever follows

@@ -24,7 +24,7 @@ use Rattle.diagram.specs.Collect.{CollectEnsures}
 use Rattle.diagram.specs.Support.{support_mask}
 use Rattle.text.specs.Call.{InRange, Ranged, refusal_number}
 use Rattle.text.specs.Answer.{SmallAnswer}
-use Rattle.text.specs.Session.{TallyReply, refuse, with_tensor, with_register, at_most, answer, settle, comparison}
+use Rattle.text.specs.Session.{TallyReply, refuse, with_tensor, with_register, at_most, answer, settle}
 use Rattle.text.specs.Session.{node_count, accept}
 use Rattle.text.specs.Engine.{Contents, Reply, EngineInvariant, tally_of, FullForgets, SetsRegister, SettleEnsures}
 use Rattle.text.specs.Operate.{SetsUnless}
@@ -34,7 +34,7 @@ use Rattle.text.specs.declared.call.Call.{Call}
 use Rattle.diagram.specs.declared.node.Edge.{Edge}
 use Rattle.text.specs.declared.call.Refusal.TheVariants.{Empty, Depends}
 use Rattle.text.specs.declared.answer.Answer.{Answer}
-use Rattle.text.specs.declared.answer.Answer.TheVariants.{Done, Value, Factor, Mask}
+use Rattle.text.specs.declared.answer.Answer.TheVariants.{Done, Value, Compared, Mask}
 use Rattle.text.specs.declared.call.Refusal.{Refusal}
 use Rattle.diagram.specs.declared.gate.Gate.{Gate}
 use Rattle.diagram.specs.declared.compare.Comparison.{Comparison}
@@ -261,9 +261,6 @@ module _ {c' s s' : List ℕ} {e : Contents} {d a : ℕ} {x : Edge} {r : Reply}
 
 -- the others
 
-pub comparison_factor : {f : ℕ} {c : Comparison} → c ≡ compare.Factor f → Factor f ≡ comparison c
-comparison_factor q = ap comparison (sym q)
-
 -- an operand is an edge of the store's nodes, and its weight is small
 
 pub operand_valid : {m : ℕ} {rs : List Register} {i : ℕ} {x : Edge} → RegistersValid m rs
@@ -274,7 +271,7 @@ pub operand_small : {m : ℕ} {rs : List Register} {i : ℕ} {x : Edge} → Regi
     → GetEnsures rs i (Some x) → x.weight < modulus
 operand_small g r = (operand_valid g r).small
 
-small_comparison : (A B : Tensor indices) (r : Comparison) → ComparisonMeans A B r → SmallAnswer (Ok (comparison r))
+small_comparison : (A B : Tensor indices) (r : Comparison) → ComparisonMeans A B r → SmallAnswer (Ok (Compared r))
 small_comparison A B compare.Same n = tt
 small_comparison A B (compare.Factor f) n = omega (arith, n.small)
 small_comparison A B compare.Differ n = tt
@@ -322,18 +319,18 @@ module _ {c s : List ℕ} {e : Contents} {a : ℕ} {x : Edge} (p : EngineInvaria
       answers_only p (omega (arith, small))
       (operand s e _ i ∙ ap (λ n. (Ok (Mask n), tally_of s e)) (sym is)) (never_full (Ok (Mask m)) refl)
 
-  pub responds_cmp : {b : ℕ} {y : Edge} {r : Comparison} {n : Answer} → GetEnsures e.registers.all b (Some y)
-      → CompareEnsures x y r → n ≡ comparison r
-      → RespondEnsures c s s e (call.Cmp a b) (record { answer = Ok n; engine = e })
+  pub responds_cmp : {b : ℕ} {y : Edge} {r : Comparison} → GetEnsures e.registers.all b (Some y)
+      → CompareEnsures x y r
+      → RespondEnsures c s s e (call.Cmp a b) (record { answer = Ok (Compared r); engine = e })
   unfolding answer
-  responds_cmp {b} {y} {r} {n} j w m =
+  responds_cmp {b} {y} {r} j w =
       let t : compared (tensor_of s e.state x) (tensor_of s e.state y) ≡ r =
       w.is s e.state p.sound (operand_valid p.registers i) (operand_valid p.registers j) in
       answers_only p
-      (subst (λ z. SmallAnswer (Ok z)) (sym m) (small_comparison _ _ r
-      (subst (ComparisonMeans _ _) t (compared_means (tensor_of s e.state x) (tensor_of s e.state y)))))
-      (operand s e _ i ∙ operand s e _ j ∙ ap (λ z. (Ok z, tally_of s e)) (ap comparison t ∙ sym m))
-      (never_full (Ok n) refl)
+      (small_comparison _ _ r
+      (subst (ComparisonMeans _ _) t (compared_means (tensor_of s e.state x) (tensor_of s e.state y))))
+      (operand s e _ i ∙ operand s e _ j ∙ ap (λ z. (Ok (Compared z), tally_of s e)) t)
+      (never_full (Ok (Compared r)) refl)
 
 pub responds_collect : {c' s s' : List ℕ} {e : Contents} {st : State} {rs : Registers}
     → CollectEnsures c' s s' e.state st e.registers.all rs.all

@@ -1,15 +1,15 @@
 -- A verdict's answer (document 01, "Verdicts"): what is printed.
 use Rattle.std.specs.Prelude.{[], ◌∷◌, ◌≡◌, ℕ, ◌≤◌, ◌^◌, ◌<◌, length, Result, Ok, Err}
 use Rattle.text.specs.Text.{Bytes, bytes}
-use Rattle.text.specs.Limits.{last_weight, verdict_room}
+use Rattle.text.specs.Limits.{verdict_room}
 use Rattle.text.specs.Print.{decimal, written}
-use Rattle.text.specs.Answer.{line_of_fields, printed}
+use Rattle.text.specs.Answer.{line_of_fields, printed, SmallAnswer}
 use Rattle.text.specs.declared.check.Fault.{Fault}
 use Rattle.text.specs.declared.check.Fault.TheVariants.{Header as BadHeader, Line, Qubit, Equal, Parting, Full}
-use Rattle.text.specs.declared.ruling.Ruling.{Ruling}
-use Rattle.text.specs.declared.ruling.Ruling.TheVariants.{Same, Factor, Differ}
+use Rattle.diagram.specs.declared.compare.Comparison.TheVariants.{Same, Factor, Differ}
 use Rattle.text.specs.declared.check.FaultAt.{FaultAt}
-use Rattle.text.specs.declared.answer.Answer.TheVariants as answer
+use Rattle.diagram.specs.declared.compare.Comparison.{Comparison}
+use Rattle.text.specs.declared.answer.Answer.TheVariants.{Compared}
 
 -- "10 bad first line; within a gate line 11 (unknown name, wrong count of fields, or a qubit not one digit), 12 (qubit
 -- not below n), 13 (qubits equal); 14 a second `=`, .. or no `=`, ..; 8 full"
@@ -21,32 +21,32 @@ fault_number Equal = 13
 fault_number Parting = 14
 fault_number Full = 8
 
--- Verdicts are "answered as in sessions"; "Refused as `no`, number, line counted from 1".
-unfoldable pub printed_ruling : Result Ruling FaultAt → Bytes
-printed_ruling (Ok Same) = printed (Ok answer.Same)
-printed_ruling (Ok (Factor f)) = printed (Ok (answer.Factor f))
-printed_ruling (Ok Differ) = printed (Ok answer.Differ)
-printed_ruling (Err at) = line_of_fields (bytes "no" ∷ decimal (fault_number at.fault) ∷ decimal at.line ∷ [])
+-- what a text is answered: how its lists compare, or the fault for which it is refused and the line of that
+abbrev pub Ruling : Type 0
+Ruling = Result Comparison FaultAt
 
--- a text refused with this fault at this line
-abbrev pub no_at : Fault → ℕ → Result Ruling FaultAt
+-- it is refused for this fault at this line
+abbrev pub no_at : Fault → ℕ → Ruling
 no_at f line = Err (record { fault = f; line = line })
 
+-- Verdicts are "answered as in sessions"; "Refused as `no`, number, line counted from 1".
+unfoldable pub printed_ruling : Ruling → Bytes
+printed_ruling (Ok r) = printed (Ok (Compared r))
+printed_ruling (Err at) = line_of_fields (bytes "no" ∷ decimal (fault_number at.fault) ∷ decimal at.line ∷ [])
+
 -- a factor is a weight
-abbrev pub SmallRuling : Result Ruling FaultAt → Type 0
-SmallRuling (Ok Same) = Unit
-SmallRuling (Ok (Factor f)) = f ≤ last_weight
-SmallRuling (Ok Differ) = Unit
+abbrev pub SmallRuling : Ruling → Type 0
+SmallRuling (Ok r) = SmallAnswer (Ok (Compared r))
 SmallRuling (Err at) = Unit
 
 -- an answer is written at the start of l, and r is how many bytes it has: at most 32
-pub record RulingWritten (l : Bytes) (ruling : Result Ruling FaultAt) (l' : Bytes) (r : ℕ) : Type 0 where
+pub record RulingWritten (l : Bytes) (ruling : Ruling) (l' : Bytes) (r : ℕ) : Type 0 where
   pub exact : l' ≡ written l 0 (printed_ruling ruling)
   pub count : r ≡ length (printed_ruling ruling)
   pub short : r ≤ verdict_room
 
 -- a ruling whose number has at most 20 digits
-abbrev pub ShortRuling : Result Ruling FaultAt → Type 0
+abbrev pub ShortRuling : Ruling → Type 0
 ShortRuling (Ok Same) = Unit {0}
 ShortRuling (Ok (Factor f)) = f < 10 ^ 20
 ShortRuling (Ok Differ) = Unit {0}

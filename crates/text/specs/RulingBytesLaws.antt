@@ -1,17 +1,15 @@
 -- The bytes of a verdict's answer determine it.
-use Rattle.std.specs.Prelude.{cond, ◌≡◌, refl, [], ℕ, ◌^◌, ◌<◌, eqb, Result, Ok, Err}
+use Rattle.std.specs.Prelude.{cond, ◌≡◌, refl, [], ℕ, ◌^◌, ◌<◌, eqb, Ok, Err}
 use Rattle.std.proofs.Common.{ap, sym, ◌∙◌, subst, arith}
 use Rattle.text.specs.Text.{LF, tab}
 use Rattle.text.specs.Print.{decimal}
 use Rattle.text.specs.Answer.{line_of_fields, printed}
-use Rattle.text.specs.Ruling.{fault_number, printed_ruling, no_at, ShortRuling}
+use Rattle.text.specs.Ruling.{Ruling, fault_number, printed_ruling, no_at, ShortRuling}
 use Rattle.text.specs.VerdictBytes.{same_line, factor_line, differ_line, no_line}
 use Rattle.text.specs.SplitLaws.{head_same, tail_same}
 use Rattle.text.specs.PrintDecimalLaws.{visible, seam, decimal_exact, decimal_injective}
 use Rattle.text.specs.declared.check.Fault.{Fault}
-use Rattle.text.specs.declared.ruling.Ruling.TheVariants.{Same, Factor, Differ}
-use Rattle.text.specs.declared.check.FaultAt.{FaultAt}
-use Rattle.text.specs.declared.ruling.Ruling.{Ruling}
+use Rattle.diagram.specs.declared.compare.Comparison.TheVariants.{Same, Factor, Differ}
 use Rattle.text.specs.declared.check.Fault.TheVariants as faults
 
 -- the number of a fault determines it
@@ -62,14 +60,14 @@ prints_no f line = refl
 
 -- .. and of which ruling it is: the first byte tells the four kinds apart
 
-pub printed_same : (r : Result Ruling FaultAt) → printed_ruling r ≡ same_line → r ≡ Ok Same
+pub printed_same : (r : Ruling) → printed_ruling r ≡ same_line → r ≡ Ok Same
 unfolding printed_ruling printed line_of_fields
 printed_same (Ok Same) e = refl
 printed_same (Ok (Factor g)) e = absurd (let z : ◌≡◌ {A = ℕ} 102 115 = head_same e in omega arith)
 printed_same (Ok Differ) e = absurd (let z : ◌≡◌ {A = ℕ} 100 115 = head_same e in omega arith)
 printed_same (Err at) e = absurd (let z : ◌≡◌ {A = ℕ} 110 115 = head_same e in omega arith)
 
-pub printed_differ : (r : Result Ruling FaultAt) → printed_ruling r ≡ differ_line → r ≡ Ok Differ
+pub printed_differ : (r : Ruling) → printed_ruling r ≡ differ_line → r ≡ Ok Differ
 unfolding printed_ruling printed line_of_fields
 printed_differ (Ok Same) e = absurd (let z : ◌≡◌ {A = ℕ} 115 100 = head_same e in omega arith)
 printed_differ (Ok (Factor g)) e = absurd (let z : ◌≡◌ {A = ℕ} 102 100 = head_same e in omega arith)
@@ -77,7 +75,7 @@ printed_differ (Ok Differ) e = refl
 printed_differ (Err at) e = absurd (let z : ◌≡◌ {A = ℕ} 110 100 = head_same e in omega arith)
 
 -- a factor, up to its digits
-pub printed_factor : (r : Result Ruling FaultAt) (f : ℕ) → printed_ruling r ≡ factor_line f
+pub printed_factor : (r : Ruling) (f : ℕ) → printed_ruling r ≡ factor_line f
     → (g : ℕ) × (r ≡ Ok (Factor g)) × (decimal g ≡ decimal f)
 unfolding printed_ruling printed line_of_fields
 printed_factor (Ok Same) f e = absurd (let z : ◌≡◌ {A = ℕ} 115 102 = head_same e in omega arith)
@@ -91,7 +89,7 @@ printed_factor (Ok Differ) f e = absurd (let z : ◌≡◌ {A = ℕ} 100 102 = h
 printed_factor (Err at) f e = absurd (let z : ◌≡◌ {A = ℕ} 110 102 = head_same e in omega arith)
 
 -- a refusal, up to the digits of its line
-pub printed_no : (r : Result Ruling FaultAt) (f : Fault) (line : ℕ) → printed_ruling r ≡ no_line f line
+pub printed_no : (r : Ruling) (f : Fault) (line : ℕ) → printed_ruling r ≡ no_line f line
     → (l : ℕ) × (r ≡ no_at f l) × (decimal l ≡ decimal line)
 unfolding printed_ruling printed line_of_fields
 printed_no (Ok Same) f line e = absurd (let z : ◌≡◌ {A = ℕ} 115 110 = head_same e in omega arith)
@@ -106,7 +104,7 @@ printed_no (Err at) f line e =
     (at.line, ap (λ h. no_at h at.line) (fault_number_injective at.fault f n), q.0)
 
 -- The bytes determine the ruling.
-pub printed_injective : (q r : Result Ruling FaultAt) → ShortRuling q → ShortRuling r → printed_ruling q ≡ printed_ruling r → q ≡ r
+pub printed_injective : (q r : Ruling) → ShortRuling q → ShortRuling r → printed_ruling q ≡ printed_ruling r → q ≡ r
 printed_injective q (Ok Same) a b e = printed_same q (e ∙ prints_same)
 printed_injective q (Ok (Factor f)) a b e =
     let p = printed_factor q f (e ∙ prints_factor f) in

@@ -1,15 +1,13 @@
 -- How the calls of a verdict's session run: through, or refused as full.
-use Rattle.std.specs.Prelude.{List, ◌≡◌, ℕ, length, get_or, Result, Ok, Err}
+use Rattle.std.specs.Prelude.{List, ◌≡◌, ℕ, length, get_or, Ok, Err}
 use Rattle.std.proofs.Math.Option.{Option, none, some}
 use Rattle.diagram.specs.Tensor.{Tensor}
 use Rattle.diagram.specs.Compare.{compared}
 use Rattle.text.specs.Limits.{register_count}
-use Rattle.text.specs.Session.{Capacity, at_most, unlimited, Tally, TallyReply, comparison}
-use Rattle.text.specs.Ruling.{no_at}
-use Rattle.text.specs.VerdictSession.{PerformResult, refused_at, ended_with, ruling_of_answer}
+use Rattle.text.specs.Session.{Capacity, at_most, unlimited, Tally, TallyReply}
+use Rattle.text.specs.Ruling.{Ruling, no_at}
+use Rattle.text.specs.VerdictSession.{PerformResult, refused_at, ended_with}
 use Rattle.text.specs.declared.call.Refusal.TheVariants.{Full}
-use Rattle.text.specs.declared.ruling.Ruling.{Ruling}
-use Rattle.text.specs.declared.check.FaultAt.{FaultAt}
 use Rattle.text.specs.declared.answer.Answer.TheVariants as answers
 use Rattle.text.specs.declared.check.Fault.TheVariants as faults
 
@@ -50,6 +48,6 @@ pub record HoldsBoth {d : ℕ} (T U : Tensor d) (l : RegisterList d) : Type 0 wh
 
 -- What a good text's verdict is: refused as full, never so at unlimited capacity; or what comparing the lists' tensors
 -- says.
-pub data GoodTextRuling (c : Capacity) {d : ℕ} (T U : Tensor d) : Result Ruling FaultAt → Type 0 where
+pub data GoodTextRuling (c : Capacity) {d : ℕ} (T U : Tensor d) : Ruling → Type 0 where
   was_full : (line : ℕ) → IsLimited c → GoodTextRuling c T U (no_at faults.Full line)
-  was_compared : GoodTextRuling c T U (Ok (ruling_of_answer (Ok (comparison (compared T U)))))
+  was_compared : GoodTextRuling c T U (Ok (compared T U))

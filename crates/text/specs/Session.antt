@@ -17,12 +17,10 @@ use Rattle.text.specs.Limits.{register_count, answer_room}
 use Rattle.text.specs.Line.{read_line}
 use Rattle.text.specs.Answer.{printed}
 use Rattle.text.specs.declared.answer.Answer.{Answer}
-use Rattle.text.specs.declared.answer.Answer.TheVariants.{Done, Same, Factor, Differ, Value, Mask}
+use Rattle.text.specs.declared.answer.Answer.TheVariants.{Done, Compared, Value, Mask}
 use Rattle.text.specs.declared.call.Refusal.{Refusal}
 use Rattle.text.specs.declared.call.Refusal.TheVariants.{Full, Empty, Depends}
-use Rattle.diagram.specs.declared.compare.Comparison.{Comparison}
 use Rattle.text.specs.declared.call.Call.{Call}
-use Rattle.diagram.specs.declared.compare.Comparison.TheVariants as compare
 use Rattle.text.specs.declared.call.Call.TheVariants as call
 
 -- At most so many nodes (`capacity` of the lent store, in diagram's Node); or no limit: "A list's tensor is the one its
@@ -74,12 +72,6 @@ with_tensor (some T) t f = f T
 unfoldable pub with_register : {d : ℕ} → Tally d → ℕ → (Tensor d → TallyReply d) → TallyReply d
 with_register t a f = with_tensor (get_or t.registers a none) t f
 
--- the answer of `cmp`
-abbrev pub comparison : Comparison → Answer
-comparison compare.Same = Same
-comparison (compare.Factor f) = Factor f
-comparison compare.Differ = Differ
-
 -- What a call does and answers. Its line was read, so 1, 2, 4, 5 and 6 are past; "3 from the left; 7; 8".
 unfoldable pub answer : {d : ℕ} → Capacity → Call → Tally d → TallyReply d
 -- "`put d w`: constant w"
@@ -105,7 +97,7 @@ answer c call.Collect t =
 -- "`at a v`: answers `v` and the value at assignment v"
 answer c (call.At a v) t = with_register t a (λ A. (Ok (Value (value A v).number), t))
 -- "`cmp a b`"
-answer c (call.Cmp a b) t = with_register t a (λ A. with_register t b (λ B. (Ok (comparison (compared A B)), t)))
+answer c (call.Cmp a b) t = with_register t a (λ A. with_register t b (λ B. (Ok (Compared (compared A B)), t)))
 -- "`on a` answers `m` and the register's mask": bit k is set exactly when the tensor depends on index k
 answer c (call.On a) t = with_register t a (λ A. (Ok (Mask (support_mask A)), t))
 -- "`lows d a m` lowers every index of the set m at the same moment. .. A clash is 7, in the place that `low` has it"

@@ -1,6 +1,6 @@
 -- The sentences of VerdictBytes follow from `VerdictEnsures`, which the running code promises: for every text, store
 -- and output.
-use Rattle.std.specs.Prelude.{◌≡◌, refl, List, ◌≢◌, ◌↔◌, ◌⊎◌, ℕ, ◌^◌, ◌<◌, ◌≤◌, length, Result, Ok, Err}
+use Rattle.std.specs.Prelude.{◌≡◌, refl, List, ◌≢◌, ◌↔◌, ◌⊎◌, ℕ, ◌^◌, ◌<◌, ◌≤◌, length, Ok, Err}
 use Rattle.std.proofs.Common.{sym, subst, ◌∙◌, ap, inl, inr, arith, lt-ltb}
 use Rattle.std.proofs.Math.Logic.Iff as Iff
 use Rattle.std.proofs.Math.Option.{Option, some}
@@ -11,7 +11,7 @@ use Rattle.text.specs.Limits.{verdict_room}
 use Rattle.text.specs.Print.{decimal}
 use Rattle.text.specs.Session.{Capacity, at_most}
 use Rattle.text.specs.Check.{Reading, lists, fault, read_text}
-use Rattle.text.specs.Ruling.{printed_ruling, no_at}
+use Rattle.text.specs.Ruling.{Ruling, printed_ruling, no_at}
 use Rattle.text.specs.VerdictSession.{ruling_on, verdict_result}
 use Rattle.text.specs.Agrees.{AgreeEverywhere}
 use Rattle.text.specs.Product.{list_matrix}
@@ -29,16 +29,14 @@ use Rattle.text.specs.JudgeLaws.{verdict_within}
 use Rattle.text.specs.VerdictOutputLaws.{not_full, refused_at_lem, line_most, factor_small, given_code}
 use Rattle.text.specs.VerdictOutputLaws.{given_bytes, given_rest}
 use Rattle.diagram.specs.declared.gate.Gate.{Gate}
-use Rattle.text.specs.declared.ruling.Ruling.{Ruling}
 use Rattle.text.specs.declared.check.Fault.{Fault}
 use Rattle.text.specs.declared.check.Fault.TheVariants.{Full}
-use Rattle.text.specs.declared.ruling.Ruling.TheVariants.{Same, Factor, Differ}
-use Rattle.text.specs.declared.check.FaultAt.{FaultAt}
+use Rattle.diagram.specs.declared.compare.Comparison.TheVariants.{Same, Factor, Differ}
 use Rattle.text.specs.declared.ruling.VerdictResult.{VerdictResult}
 
 -- What two lists stand for, and what the verdict says of it
 
-record Known {X : Type 0} (Of : ℕ → List Gate → X → Type 0) (E : X → X → Type 0) (T : ℕ → X → X → Type 0) (q : Result Ruling FaultAt)
+record Known {X : Type 0} (Of : ℕ → List Gate → X → Type 0) (E : X → X → Type 0) (T : ℕ → X → X → Type 0) (q : Ruling)
     (n : ℕ) (gs hs : List Gate) : Type 0 where
   first : X
   second : X
@@ -86,7 +84,7 @@ module _ {X : Type 0} (Of : ℕ → List Gate → X → Type 0) (E : X → X →
       h a.n a.gs a.hs k (subst (λ A. P A k.second) (k.first_only a.first a.first_is)
       (subst (λ B. P a.first B) (k.second_only a.second a.second_is) a.are))
 
-  exactly : (P : X → X → Type 0) (q : Result Ruling FaultAt) → ((f : Fault) (line : ℕ) → q ≢ no_at f line)
+  exactly : (P : X → X → Type 0) (q : Ruling) → ((f : Fault) (line : ℕ) → q ≢ no_at f line)
       → ((n : ℕ) (gs hs : List Gate) (k : Known Of E T (ruling_on indices c text) n gs hs)
       → (ruling_on indices c text ≡ q) ↔ P
       k.first k.second)
@@ -165,7 +163,7 @@ module _ (c : Capacity) (text : Bytes) {W : Bytes} (w : W ≡ printed_ruling (ru
   bytes_four : OneOfFour W
   bytes_four = go (ruling_on indices c text) refl
     where
-      go : (q : Result Ruling FaultAt) → ruling_on indices c text ≡ q → OneOfFour W
+      go : (q : Ruling) → ruling_on indices c text ≡ q → OneOfFour W
       go (Ok Same) q = inl (w ∙ ap printed_ruling q ∙ prints_same)
       go (Ok (Factor f)) q = inr (inl (f, w ∙ ap printed_ruling q ∙ prints_factor f))
       go (Ok Differ) q = inr (inr (inl (w ∙ ap printed_ruling q ∙ prints_differ)))

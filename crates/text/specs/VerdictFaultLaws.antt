@@ -10,7 +10,7 @@ use Rattle.text.specs.Session.{Capacity, unlimited}
 use Rattle.text.specs.Check.{fault, read_text, Reading, lists, ensured, one_qubit_item, two_qubit_item, gate_item_of}
 use Rattle.text.specs.Check.{gate_item_fields, item_of, with_second, second_item, second_list, with_first, first_item}
 use Rattle.text.specs.Check.{first_list, header_of, after_header, read_lines}
-use Rattle.text.specs.Ruling.{no_at}
+use Rattle.text.specs.Ruling.{Ruling, no_at}
 use Rattle.text.specs.VerdictSession.{ruling_of_reading, ruling_on}
 use Rattle.text.specs.VerdictMeaning.{NotFull}
 use Rattle.text.specs.Runs.{GoodTextRuling, was_full, was_compared}
@@ -18,9 +18,7 @@ use Rattle.text.specs.ArgsLaws.{by_count_lem, known_lem}
 use Rattle.text.specs.VerdictSessionLaws.{ruling_judged}
 use Rattle.text.specs.declared.args.Args.{Args}
 use Rattle.text.specs.declared.check.Fault.{Fault}
-use Rattle.text.specs.declared.check.FaultAt.{FaultAt}
 use Rattle.text.specs.declared.check.Item.{Item}
-use Rattle.text.specs.declared.ruling.Ruling.{Ruling}
 use Rattle.diagram.specs.declared.gate.Gate.{Gate}
 use Rattle.text.specs.declared.args.Args.TheVariants.{Zero}
 use Rattle.text.specs.declared.check.Fault.TheVariants as faults
@@ -51,7 +49,7 @@ abbrev EarlyReading : Reading → Type 0
 EarlyReading (lists n gs hs) = Unit
 EarlyReading (fault f line) = Early f
 
-abbrev EarlyRuling : Result Ruling FaultAt → Type 0
+abbrev EarlyRuling : Ruling → Type 0
 EarlyRuling (Ok r) = Unit
 EarlyRuling (Err at) = Early at.fault
 
@@ -132,7 +130,7 @@ reading_early text = by_lines (lines text)
 pub verdict_never_full : (text : Bytes) → NotFull unlimited text
 verdict_never_full text line q = go (read_text text) refl (reading_early text)
   where
-    judged_early : {d : ℕ} {T U : Tensor d} {r : Result Ruling FaultAt} → GoodTextRuling unlimited T U r → EarlyRuling r
+    judged_early : {d : ℕ} {T U : Tensor d} {r : Ruling} → GoodTextRuling unlimited T U r → EarlyRuling r
     judged_early (was_full line l) = absurd l
     judged_early was_compared = tt
 

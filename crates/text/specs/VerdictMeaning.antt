@@ -1,21 +1,19 @@
 -- What a verdict says of the two lists of a good text: demand 2, sentence by sentence, and document 01
 -- (its theorems: VerdictMeaningLaws).
-use Rattle.std.specs.Prelude.{◌≢◌, ◌⊎◌, ◌↔◌, ◌≡◌, List, ℕ, ◌^◌, ◌<◌, Result, Ok}
+use Rattle.std.specs.Prelude.{◌≢◌, ◌⊎◌, ◌↔◌, ◌≡◌, List, ℕ, ◌^◌, ◌<◌, Ok}
 use Rattle.std.proofs.Math.Option.{some}
 use Rattle.diagram.specs.Tensor.{indices, Tensor, value}
 use Rattle.diagram.specs.Weights.{to_weight, times_w, modulus}
 use Rattle.text.specs.Text.{Bytes}
 use Rattle.text.specs.Session.{Capacity}
-use Rattle.text.specs.Ruling.{no_at}
+use Rattle.text.specs.Ruling.{Ruling, no_at}
 use Rattle.text.specs.VerdictSession.{ruling_on, list_tensor}
 use Rattle.text.specs.Agrees.{AgreeEverywhere}
 use Rattle.text.specs.Product.{BasisState, Operator, list_matrix}
 use Rattle.text.specs.declared.check.Fault.TheVariants.{Full}
-use Rattle.text.specs.declared.ruling.Ruling.TheVariants.{Same, Factor, Differ}
+use Rattle.diagram.specs.declared.compare.Comparison.TheVariants.{Same, Factor, Differ}
 use Rattle.diagram.specs.declared.gate.Gate.{Gate}
 use Rattle.text.specs.declared.check.Fault.{Fault}
-use Rattle.text.specs.declared.ruling.Ruling.{Ruling}
-use Rattle.text.specs.declared.check.FaultAt.{FaultAt}
 
 -- the text is not refused as full: no call of its session is (verdict_refused in VerdictMeaningLaws)
 abbrev pub NotFull : Capacity → Bytes → Type 0
@@ -81,7 +79,7 @@ pub record VerdictMatrices (c : Capacity) (text : Bytes) (n : ℕ) (gs hs : List
 
 -- What a ruling says, where E is that the two are equal, M f that the first is f times the second, and N f that the
 -- second is f times the first.
-pub record Meaning (r : Result Ruling FaultAt) (E : Type 0) (M N : ℕ → Type 0) : Type 0 where
+pub record Meaning (r : Ruling) (E : Type 0) (M N : ℕ → Type 0) : Type 0 where
   pub same : (r ≡ Ok Same) ↔ E
   pub factor : ((f : ℕ) × (r ≡ Ok (Factor f))) ↔ ((¬ E) × ((f : ℕ) × (M f ⊎ N f)))
   pub differ : (r ≡ Ok Differ) ↔ ((¬ E) × (¬ ((f : ℕ) × (M f ⊎ N f))))

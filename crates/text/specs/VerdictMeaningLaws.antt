@@ -1,5 +1,5 @@
 -- The sentences of VerdictMeaning hold of every good text.
-use Rattle.std.specs.Prelude.{◌≡◌, refl, ◌≢◌, ◌⊎◌, ◌↔◌, List, ℕ, ◌<◌, ◌*◌, ◌≤◌, Result, Ok, Err}
+use Rattle.std.specs.Prelude.{◌≡◌, refl, ◌≢◌, ◌⊎◌, ◌↔◌, List, ℕ, ◌<◌, ◌*◌, ◌≤◌, Ok, Err}
 use Rattle.std.proofs.Common.{ap, sym, ◌∙◌, subst, inl, inr, arith}
 use Rattle.std.proofs.Math.Logic.Iff as Iff
 use Rattle.diagram.specs.Weights.{modulus, Weight, to_weight}
@@ -16,11 +16,11 @@ use Rattle.diagram.specs.CompareLaws.{compared_same, compared_factor, compared_d
 use Rattle.diagram.specs.TallyValueLaws.{agree_exactly, scale_value}
 use Rattle.diagram.specs.Gate.{unit_tensor}
 use Rattle.text.specs.Text.{Bytes}
-use Rattle.text.specs.Session.{comparison, Capacity, empty_tally}
+use Rattle.text.specs.Session.{Capacity, empty_tally}
 use Rattle.text.specs.Check.{lists, read_text, AllPlaced, GoodLists}
 use Rattle.text.specs.Qubits.{AllFit}
-use Rattle.text.specs.Ruling.{no_at}
-use Rattle.text.specs.VerdictSession.{ruling_of_answer, PerformResult, refused_at, ruling_at_end, session_calls}
+use Rattle.text.specs.Ruling.{Ruling, no_at}
+use Rattle.text.specs.VerdictSession.{PerformResult, refused_at, ruling_at_end, session_calls}
 use Rattle.text.specs.VerdictSession.{perform, ruling_of_reading, ruling_on}
 use Rattle.text.specs.Product.{list_matrix}
 use Rattle.text.specs.VerdictMeaning.{Meaning, IsTimes, NotFull, VerdictMeans, MatrixIsTimes, VerdictMatrices}
@@ -30,13 +30,10 @@ use Rattle.text.specs.QubitsLaws.{placed_fit}
 use Rattle.text.specs.RulingLaws.{no_at_same}
 use Rattle.text.specs.VerdictSessionLaws.{session_runs, list_tensor_lem, good_lists, ruling_judged}
 use Rattle.text.specs.ProductLaws.{lists_same, lists_multiple}
-use Rattle.text.specs.declared.ruling.Ruling.{Ruling}
-use Rattle.text.specs.declared.ruling.Ruling.TheVariants.{Same, Factor, Differ}
-use Rattle.text.specs.declared.check.FaultAt.{FaultAt}
+use Rattle.diagram.specs.declared.compare.Comparison.TheVariants.{Same, Factor, Differ}
 use Rattle.diagram.specs.declared.compare.Comparison.{Comparison}
 use Rattle.text.specs.declared.check.Fault.{Fault}
 use Rattle.diagram.specs.declared.gate.Gate.{Gate}
-use Rattle.diagram.specs.declared.compare.Comparison.TheVariants as compare
 use Rattle.text.specs.declared.call.Refusal.TheVariants as refusal
 use Rattle.text.specs.declared.check.Fault.TheVariants as faults
 
@@ -70,31 +67,31 @@ scaled_one {A = A} {B} n s q = n (s.is ∙ ap (λ w. scale w B) (ap to_weight q 
 -- What a ruling says: E that the two are equal, M f that the first is f times the second, N f that the second is f
 -- times the first
 
-abbrev RulingMeans : Type 0 → (ℕ → Type 0) → (ℕ → Type 0) → Result Ruling FaultAt → Type 0
+abbrev RulingMeans : Type 0 → (ℕ → Type 0) → (ℕ → Type 0) → Ruling → Type 0
 RulingMeans E M N (Ok Same) = E
 RulingMeans E M N (Ok (Factor f)) = (¬ E) × (f ≢ 1) × M f
 RulingMeans E M N (Ok Differ) = (¬ E) × (¬ ((f : ℕ) × (M f ⊎ N f)))
 RulingMeans E M N (Err at) = ⊥
 
-abbrev TensorsMean : {d : ℕ} → Tensor d → Tensor d → Result Ruling FaultAt → Type 0
+abbrev TensorsMean : {d : ℕ} → Tensor d → Tensor d → Ruling → Type 0
 TensorsMean A B r = Meaning r (A ≡ B) (λ f. Scaled f A B) (λ f. Scaled f B A)
 
 -- comparing two tensors
 module _ {d : ℕ} (A B : Tensor d) where
-  abbrev compared_ruling : Comparison → Result Ruling FaultAt
-  compared_ruling x = Ok (ruling_of_answer (Ok (comparison x)))
+  abbrev compared_ruling : Ruling
+  compared_ruling = Ok (compared A B)
 
   ruling_means : (x : Comparison) → ComparisonMeans A B x
-      → RulingMeans (A ≡ B) (λ f. Scaled f A B) (λ f. Scaled f B A) (compared_ruling x)
-  ruling_means compare.Same e = e
-  ruling_means (compare.Factor f) m =
+      → RulingMeans (A ≡ B) (λ f. Scaled f A B) (λ f. Scaled f B A) (Ok x)
+  ruling_means Same e = e
+  ruling_means (Factor f) m =
       let s : Scaled f A B = record {
         weight = m.small;
         nonzero = λ q. nonzero_not m.nonzero (ap to_weight q ∙ weight_zero);
         is = m.is;
       } in
       (m.differ, scaled_one m.differ s, s)
-  ruling_means compare.Differ p = (p.differ, apart)
+  ruling_means Differ p = (p.differ, apart)
     where
       alone : (f : ℕ) → ¬ Scaled f A B
       alone f s = p.multiple (to_weight f) (scaled_nonzero s) s.is
@@ -103,35 +100,35 @@ module _ {d : ℕ} (A B : Tensor d) where
       apart (f, inl s) = alone f s
       apart (f, inr s) = alone _ (scaled_back s)
 
-  is_factor : (f : ℕ) → A ≢ B → Scaled f A B → compared_ruling (compared A B) ≡ Ok (Factor f)
+  is_factor : (f : ℕ) → A ≢ B → Scaled f A B → compared_ruling ≡ Ok (Factor f)
   is_factor f n s =
-      ap compared_ruling (compared_factor A B (to_weight f) n (scaled_nonzero s) s.is)
+      ap Ok (compared_factor A B (to_weight f) n (scaled_nonzero s) s.is)
       ∙ ap (λ n. Ok (Factor n)) (number_weight f s.weight)
 
-  tells_compared : TensorsMean A B (compared_ruling (compared A B))
+  tells_compared : TensorsMean A B compared_ruling
   tells_compared = record {
-    same = (tensors_mean (Ok Same), λ e. ap compared_ruling (compared_same A B e));
+    same = (tensors_mean (Ok Same), λ e. ap Ok (compared_same A B e));
     factor = (
       λ p. let s = tensors_mean (Ok (Factor p.0)) p.1 in (s.0, (p.0, inl s.2)),
       λ p. some_factor p.0 p.1,
     );
     differ = (
       tensors_mean (Ok Differ),
-      λ p. ap compared_ruling (compared_differ A B (record
+      λ p. ap Ok (compared_differ A B (record
           { differ = p.0; multiple = λ f z e. p.1 (f.number, inl (scaled_weight f A B z e)) })),
     );
     no_other = λ f line. tensors_mean (no_at f line);
     factor_of = λ f. (tensors_mean (Ok (Factor f)), λ p. is_factor f p.0 p.2);
   }
     where
-      tensors_mean : (r : Result Ruling FaultAt) → compared_ruling (compared A B) ≡ r → RulingMeans (A ≡ B) (λ f. Scaled f A B)
+      tensors_mean : (r : Ruling) → compared_ruling ≡ r → RulingMeans (A ≡ B) (λ f. Scaled f A B)
           (λ f. Scaled f B A) r
       tensors_mean r e =
           subst (RulingMeans (A ≡ B) (λ f. Scaled f A B) (λ f. Scaled f B A)) e
           (ruling_means (compared A B) (compared_means A B))
 
       some_factor : A ≢ B → (f : ℕ) × (Scaled f A B ⊎ Scaled f B A)
-          → (f : ℕ) × (compared_ruling (compared A B) ≡ Ok (Factor f))
+          → (f : ℕ) × (compared_ruling ≡ Ok (Factor f))
       some_factor n (f, inl s) = (f, is_factor f n s)
       some_factor n (f, inr s) = (_, is_factor _ n (scaled_back s))
 
@@ -142,7 +139,7 @@ either : {M M' N N' : ℕ → Type 0} → ((f : ℕ) → M f → M' f) → ((f :
 either m n (f, inl x) = (f, inl (m f x))
 either m n (f, inr x) = (f, inr (n f x))
 
-meaning_carry : {r : Result Ruling FaultAt} {E E' : Type 0} {M M' N N' : ℕ → Type 0} → E ↔ E' → ((f : ℕ) → M f ↔ M' f)
+meaning_carry : {r : Ruling} {E E' : Type 0} {M M' N N' : ℕ → Type 0} → E ↔ E' → ((f : ℕ) → M f ↔ M' f)
     → ((f : ℕ) → N f ↔ N' f)
     → Meaning r E M N → Meaning r E' M' N'
 meaning_carry {M = M} {M'} {N} {N'} e m n t =
@@ -215,7 +212,7 @@ module _ (c : Capacity) (text : Bytes) {n : ℕ} {gs hs : List Gate} (e : read_t
   tells_verdict : NotFull c text → TensorsMean (list_tensor_of gs) (list_tensor_of hs) (ruling_on indices c text)
   tells_verdict h = go (ruling_judged c text e) h
     where
-      go : {r : Result Ruling FaultAt} → GoodTextRuling c (list_tensor_of gs) (list_tensor_of hs) r
+      go : {r : Ruling} → GoodTextRuling c (list_tensor_of gs) (list_tensor_of hs) r
           → ((line : ℕ) → r ≢ no_at faults.Full line)
           → TensorsMean (list_tensor_of gs) (list_tensor_of hs) r
       go (was_full line l) h = absurd (h line refl)

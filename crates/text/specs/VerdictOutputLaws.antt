@@ -23,7 +23,7 @@ use Rattle.text.specs.declared.ruling.VerdictResult.{VerdictResult}
 use Rattle.diagram.specs.declared.gate.Gate.{Gate}
 use Rattle.text.specs.declared.check.Fault.{Fault}
 use Rattle.text.specs.declared.check.Fault.TheVariants.{Full}
-use Rattle.text.specs.declared.ruling.Ruling.TheVariants.{Factor}
+use Rattle.diagram.specs.declared.compare.Comparison.TheVariants.{Factor}
 use Rattle.text.specs.declared.call.Refusal.TheVariants as refusal
 
 -- What is written, from `VerdictEnsures`.

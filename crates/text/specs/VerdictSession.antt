@@ -6,18 +6,17 @@ use Rattle.text.specs.Text.{Bytes}
 use Rattle.text.specs.Limits.{verdict_room}
 use Rattle.text.specs.Session.{Tally, TallyReply, Capacity, answer, unlimited, empty_tally}
 use Rattle.text.specs.Check.{Reading, lists, fault, read_text}
-use Rattle.text.specs.Ruling.{printed_ruling, no_at}
+use Rattle.text.specs.Ruling.{Ruling, printed_ruling, no_at}
 use Rattle.text.specs.Qubits.{qubits, middles}
 use Rattle.text.specs.declared.call.Call.{Call}
 use Rattle.diagram.specs.declared.gate.Gate.{Gate}
 use Rattle.text.specs.declared.call.Refusal.{Refusal}
 use Rattle.text.specs.declared.answer.Answer.{Answer}
-use Rattle.text.specs.declared.ruling.Ruling.{Ruling}
-use Rattle.text.specs.declared.ruling.Ruling.TheVariants.{Same, Factor, Differ}
-use Rattle.text.specs.declared.check.FaultAt.{FaultAt}
+use Rattle.diagram.specs.declared.compare.Comparison.{Comparison}
+use Rattle.diagram.specs.declared.compare.Comparison.TheVariants.{Differ}
 use Rattle.text.specs.declared.check.Fault.TheVariants.{Full}
 use Rattle.text.specs.declared.call.Call.TheVariants as call
-use Rattle.text.specs.declared.answer.Answer.TheVariants as answers
+use Rattle.text.specs.declared.answer.Answer.TheVariants.{Compared, Done, Value, Mask}
 
 -- "`low` of their fresh indices in rising order": qubit q has the fresh index 3q+2
 unfoldable pub low_calls : ℕ → List ℕ → List Call
@@ -74,26 +73,24 @@ list_tensor d n gs = register_tensor 0 (perform unlimited (list_calls 0 n 1 gs) 
 
 -- "then `cmp 0 1`": what its answer says. Its last four cases do not come: `cmp` is asked of filled registers
 -- (ruling_judged in VerdictSessionLaws).
-abbrev pub ruling_of_answer : Result Answer Refusal → Ruling
-ruling_of_answer (Ok answers.Same) = Same
-ruling_of_answer (Ok (answers.Factor f)) = Factor f
-ruling_of_answer (Ok answers.Differ) = Differ
-ruling_of_answer (Ok (answers.Done n)) = Differ
+abbrev pub ruling_of_answer : Result Answer Refusal → Comparison
+ruling_of_answer (Ok (Compared r)) = r
+ruling_of_answer (Ok (Done n)) = Differ
+ruling_of_answer (Ok (Value w)) = Differ
+ruling_of_answer (Ok (Mask m)) = Differ
 ruling_of_answer (Err r) = Differ
-ruling_of_answer (Ok (answers.Value w)) = Differ
-ruling_of_answer (Ok (answers.Mask m)) = Differ
 
 -- "8 full, at the line being run". No other refusal comes (session_runs in VerdictSessionLaws).
-unfoldable pub ruling_at_end : {d : ℕ} → Capacity → PerformResult d → Result Ruling FaultAt
+unfoldable pub ruling_at_end : {d : ℕ} → Capacity → PerformResult d → Ruling
 ruling_at_end c (refused_at line r) = no_at Full line
 ruling_at_end c (ended_with t) = Ok (ruling_of_answer (answer c (call.Cmp 0 1) t).0)
 
 -- "All lines are read before any gate runs; the first faulty line decides."
-unfoldable pub ruling_of_reading : (d : ℕ) → Capacity → Reading → Result Ruling FaultAt
+unfoldable pub ruling_of_reading : (d : ℕ) → Capacity → Reading → Ruling
 ruling_of_reading d c (fault f line) = no_at f line
 ruling_of_reading d c (lists n gs hs) = ruling_at_end {d = d} c (perform c (session_calls n gs hs) empty_tally)
 
-unfoldable pub ruling_on : (d : ℕ) → Capacity → Bytes → Result Ruling FaultAt
+unfoldable pub ruling_on : (d : ℕ) → Capacity → Bytes → Ruling
 ruling_on d c text = ruling_of_reading d c (read_text text)
 
 -- "Fewer than 32 output bytes returns 9 and writes nothing, before any reading; otherwise the code is 0, also with

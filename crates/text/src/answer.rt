@@ -7,6 +7,7 @@ ghost use Rattle.text.specs.Print.{WriteEnsures};
 use crate::call::Refusal;
 use crate::limits::{Mask, Weight};
 use crate::print;
+use diagram::compare::Comparison;
 use diagram::node::NodeCount;
 
 // What a line is answered that is not refused; `Done` is printed as `ok`.
@@ -14,9 +15,7 @@ use diagram::node::NodeCount;
 pub enum Answer {
     Done(NodeCount),
     Value(Weight),
-    Same,
-    Factor(Weight),
-    Differ,
+    Compared(Comparison),
     Mask(Mask),
 }
 
@@ -30,6 +29,18 @@ fn pair(out: &mut [u8], at: usize, word: &[u8], n: usize) -> usize
 }
 
 #[tactic(auto, unfolding(crate::specs::Answer::printed, crate::specs::Answer::line_of_fields))]
+fn put_comparison(out: &mut [u8], at: usize, comparison: Comparison) -> usize
+    requires { (at + answer_room ≤ length out.old) × SmallAnswer (Ok (Answer.Compared comparison)) }
+    ensures { WriteEnsures out.old at (printed (Ok (Answer.Compared comparison))) out.new result }
+{
+    match comparison {
+        Comparison::Same => print::put_bytes(out, at, b"same\n"),
+        Comparison::Factor(f) => pair(out, at, b"factor\t", f as usize),
+        Comparison::Differ => print::put_bytes(out, at, b"differ\n"),
+    }
+}
+
+#[tactic(auto, unfolding(crate::specs::Answer::printed, crate::specs::Answer::line_of_fields))]
 fn put(out: &mut [u8], at: usize, answer: Answer) -> usize
     requires { (at + answer_room ≤ length out.old) × SmallAnswer (Ok answer) }
     ensures { WriteEnsures out.old at (printed (Ok answer)) out.new result }
@@ -37,9 +48,7 @@ fn put(out: &mut [u8], at: usize, answer: Answer) -> usize
     match answer {
         Answer::Done(n) => pair(out, at, b"ok\t", n),
         Answer::Value(w) => pair(out, at, b"v\t", w),
-        Answer::Same => print::put_bytes(out, at, b"same\n"),
-        Answer::Factor(f) => pair(out, at, b"factor\t", f),
-        Answer::Differ => print::put_bytes(out, at, b"differ\n"),
+        Answer::Compared(comparison) => put_comparison(out, at, comparison),
         Answer::Mask(m) => pair(out, at, b"m\t", m),
     }
 }

@@ -13,25 +13,24 @@ use crate::check::{Fault, FaultAt};
 use crate::engine::Engine;
 use crate::limits::{LineNumber, VERDICT_ROOM};
 use crate::list::Lists;
-use crate::ruling::{Ruling, VerdictResult};
+use crate::ruling::VerdictResult;
 use crate::{check, ruling};
+use diagram::compare::Comparison;
 use diagram::diagram::Diagram;
 use diagram::gate::QubitCount;
 use diagram::registers::Registers;
 
-fn ruling_of(answer: Result<Answer, Refusal>) -> Ruling
+fn ruling_of(answer: Result<Answer, Refusal>) -> Comparison
     ensures { result ≡ ruling_of_answer answer }
 {
     match answer {
-        Ok(Answer::Same) => Ruling::Same,
-        Ok(Answer::Factor(f)) => Ruling::Factor(f),
-        Ok(Answer::Differ) => Ruling::Differ,
-        _ => Ruling::Differ,
+        Ok(Answer::Compared(comparison)) => comparison,
+        _ => Comparison::Differ,
     }
 }
 
 // The second list, from the line `=` on, and "then `cmp 0 1`".
-fn second(lists: &mut Lists, count: usize) -> Result<Ruling, FaultAt>
+fn second(lists: &mut Lists, count: usize) -> Result<Comparison, FaultAt>
     requires { IsLists lists.old × (ListAhead lists.old 1 count ×
         ((1 ≤ lists.old.qubits) × (lists.old.qubits ≤ most_qubits))) }
     ensures { JudgesSecond lists.old count result }
@@ -52,7 +51,7 @@ fn run(
     n: QubitCount,
     parting: LineNumber,
     count: usize,
-) -> Result<Ruling, FaultAt>
+) -> Result<Comparison, FaultAt>
     requires { GoodText text.now n parting count × ((1 ≤ n) × (n ≤ most_qubits)) }
     ensures { JudgeEnsures text.now store.old result }
 {
@@ -77,7 +76,7 @@ fn run(
 }
 
 // "All lines are read before any gate runs; the first faulty line decides."
-fn judge(text: &[u8], store: &mut [u8], cache: &mut [u64]) -> Result<Ruling, FaultAt>
+fn judge(text: &[u8], store: &mut [u8], cache: &mut [u64]) -> Result<Comparison, FaultAt>
     ensures { JudgeEnsures text.now store.old result }
 {
     let good = check::check(text)?;

@@ -2,7 +2,6 @@
 // 2, 4, 5 and 6 are past: "3 from the left; 7; 8".
 ghost use Rattle.std.specs.Prelude.{◌≡◌, ◌<◌, Ok};
 ghost use Rattle.text.specs.Limits.{register_count};
-ghost use Rattle.text.specs.Session.{comparison};
 ghost use Rattle.text.specs.Call.{InRange, Ranged};
 ghost use Rattle.text.specs.Engine.{KeepsEngine, IsEngine};
 ghost use Rattle.text.specs.Respond.{OperandRead, Responds, Replies};
@@ -13,19 +12,8 @@ use crate::call::{Call, Refusal};
 use crate::engine::Engine;
 use crate::limits::{Assignment, Mask};
 use diagram::compare;
-use diagram::compare::Comparison;
 use diagram::node::{Edge, Index};
 use diagram::registers::RegisterNumber;
-
-fn comparison(c: Comparison) -> Answer
-    ensures { result ≡ comparison c }
-{
-    match c {
-        Comparison::Same => Answer::Same,
-        Comparison::Factor(f) => Answer::Factor(f as usize),
-        Comparison::Differ => Answer::Differ,
-    }
-}
 
 impl<'b, 'a> Engine<'b, 'a> {
     // The edge in a register, or 3 where that is empty.
@@ -129,7 +117,7 @@ impl<'b, 'a> Engine<'b, 'a> {
     {
         let x = self.operand(a)?;
         let y = self.operand(b)?;
-        Ok(comparison(compare::compare(x, y)))
+        Ok(Answer::Compared(compare::compare(x, y)))
     }
 
     fn on(&self, a: RegisterNumber) -> Result<Answer, Refusal>

@@ -12,11 +12,6 @@ pair-requires-in-Value c =
     let told = c.in-Value.is in
     (omega arith, (omega arith, weight_small (rw told at c.requires.1)))
 
-pub pair-requires-in-Factor : goal.pair-requires-in-Factor
-pair-requires-in-Factor c =
-    let told = c.in-Factor.is in
-    (omega arith, (omega arith, weight_small (rw told at c.requires.1)))
-
 pub pair-requires-in-Mask : goal.pair-requires-in-Mask
 pair-requires-in-Mask c =
     let told = c.in-Mask.is in

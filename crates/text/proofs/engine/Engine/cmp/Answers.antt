@@ -20,4 +20,4 @@ compare-requires c =
     (operand_small valid c.in_ok-x.ensures, operand_small valid c.in_ok-y.ensures)
 
 pub returns : goal.returns
-returns c = responds_cmp c.requires.0 c.in_ok-x.ensures c.in_ok-y.ensures c.compare.ensures c.comparison.ensures
+returns c = responds_cmp c.requires.0 c.in_ok-x.ensures c.in_ok-y.ensures c.compare.ensures

@@ -1,0 +1,6 @@
+-- `same`, `factor` and `differ` are a session's answers.
+use Rattle.text.specs.RulingLaws.{ruling_written_answer}
+use Rattle.text.proofs.ruling.write.Goals as goal
+
+pub returns-in-Ok : goal.returns-in-Ok
+returns-in-Ok c = rw c.in-Ok.is (ruling_written_answer _ c.write.ensures)
