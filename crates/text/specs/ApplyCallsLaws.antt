@@ -199,7 +199,8 @@ ruling_settle : {d : ℕ} (c : Capacity) (line r : ℕ) (p : Tensor d × Set d) 
     → ruling_at_end c (continue_with line (settle c r p t) f) ≡ no_at Full line
 ruling_settle c line r p t f h = rw (settle_on c line r p t f) (go (fits c (length p.1)))
   where
-    go : (b : Bool) → ruling_at_end c (cond b (f (settled_tally r p t)) (refused_at line refusal.Full)) ≡ no_at Full line
+    go : (b : Bool)
+        → ruling_at_end c (cond b (f (settled_tally r p t)) (refused_at line refusal.Full)) ≡ no_at Full line
     go true = h
     go false = unfold ruling_at_end in refl
 

@@ -140,7 +140,8 @@ module _ {p q : ℕ} {x : Shape} {T : Tensor indices} (e : x ≡ Two p q) (h : R
   second_free : (z : Set indices) → AllFree (q ∷ []) (low (3 * p + 2) T z).0
   second_free = low_free 0 p (q ∷ []) T two.rising two.free
 
-  pub renamed_full : {c₁ s s₁ : List ℕ} {st t : State} {f : Full} → RefinesCached c₁ s s₁ st t (low (3 * p + 2) T) (Err f)
+  pub renamed_full : {c₁ s s₁ : List ℕ} {st t : State} {f : Full}
+      → RefinesCached c₁ s s₁ st t (low (3 * p + 2) T) (Err f)
       → RefinesCached c₁ s s₁ st t (rename_step (qubit_list x) T) (Err f)
   unfolding rename_step ◌>>=◌
   renamed_full {s = s} {st = st} w =

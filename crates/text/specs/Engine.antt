@@ -104,7 +104,8 @@ abbrev pub IsEngine : Engine → Type 0
 IsEngine e = EngineInvariant e.diagram.now.cache.now e.diagram.now.store.now (contents e)
 
 abbrev pub Sets : Engine → Engine → ℕ → Step indices → Result Answer Refusal → Type 0
-Sets e e' d f a = SetsRegister e'.diagram.now.cache.now e.diagram.now.store.now e'.diagram.now.store.now (contents e) d f
+Sets e e' d f a =
+    SetsRegister e'.diagram.now.cache.now e.diagram.now.store.now e'.diagram.now.store.now (contents e) d f
     (reply a e')
 
 -- the engine e is where the step has left it, and st is the state before the step

@@ -37,7 +37,8 @@ pub engine_start_ensures : {c s s' : List ℕ} {e : Contents} → StartEnsures c
     → e.registers.all ≡ empty_registers
     → EngineStartEnsures c s s' e
 unfolding tally_of empty_tally holds_all holds
-engine_start_ensures {s' = s'} {e} f q = record { long = f.long; invariant = invariant_start f q; is = rw (start_set f, q) }
+engine_start_ensures {s' = s'} {e} f q =
+    record { long = f.long; invariant = invariant_start f q; is = rw (start_set f, q) }
 
 -- a step that was done: register d is its edge, the others hold what they held
 settle_edge : {s s' : List ℕ} {e : Contents} {t : State} {rs : Registers} (d : ℕ) {f : Step indices} {x : Edge}
@@ -103,7 +104,8 @@ settle_ensures_edge {c} {s} {e} {d} {x} {t} {rs} b = record { on = on }
   where
     on : (c₀ s₀ : List ℕ) (f : Step indices) → EngineInvariant c₀ s₀ e
         → RefinesCached c s₀ s e.state t f (Ok x)
-        → SetsRegister c s₀ s e d f (record { answer = Ok (Done t.count); engine = record { state = t; registers = rs } })
+        → SetsRegister c s₀ s e d f
+        (record { answer = Ok (Done t.count); engine = record { state = t; registers = rs } })
     on c₀ s₀ f p n =
         record {
           invariant = invariant_cached p d b n;

@@ -188,7 +188,8 @@ module _ {d : ℕ} (m : ℕ) where
       → answer c (call.At a v) (grow_tally m t) ≡ grow_reply m (answer c (call.At a v) t)
   unfolding answer
   grow_at c a v t =
-      grow_register_lem t a _ _ (λ A. ap (λ (w : Weight). (Ok (answers.Value w.number), grow_tally m t)) (grow_value m A v))
+      grow_register_lem t a _ _
+      (λ A. ap (λ (w : Weight). (Ok (answers.Value w.number), grow_tally m t)) (grow_value m A v))
 
   grow_cmp : (c : Capacity) (a b : ℕ) (t : Tally d)
       → answer c (call.Cmp a b) (grow_tally m t) ≡ grow_reply m (answer c (call.Cmp a b) t)

@@ -41,9 +41,6 @@ use Rattle.text.specs.declared.check.Item.TheVariants as item
 
 -- comparing
 
-pub ruling_as : {a b : Result Answer Refusal} → a ≡ b → ruling_of_answer b ≡ ruling_of_answer a
-ruling_as q = ap ruling_of_answer (sym q)
-
 small_ruling : (a : Result Answer Refusal) → SmallAnswer a → SmallRuling (Ok (ruling_of_answer a))
 small_ruling (Ok (answers.Compared r)) h = h
 small_ruling (Ok (answers.Done n)) h = tt
@@ -172,7 +169,8 @@ module _ {text : Bytes} {n parting count : ℕ} (g : GoodText text n parting cou
           let z : x.line + 1 ≡ length g.first + 2 = omega (arith, first_done.line, g.place) in
           record {
             is = rw (← b.long) ((rw (k, z) at (u.is g.second [] second_lines))
-                ∙ ap (λ y. ruling_from_state (at_most (capacity s₁)) (list_calls 1 n (length g.first + 2) g.second) s' y)
+                ∙ ap (λ y.
+                ruling_from_state (at_most (capacity s₁)) (list_calls 1 n (length g.first + 2) g.second) s' y)
                 (sym e) ∙ sym whole);
             small = u.small;
           }

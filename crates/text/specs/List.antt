@@ -1,5 +1,6 @@
 -- Running the lists of a verdict's text line by line, as the code does it.
-use Rattle.std.specs.Prelude.{List, ◌++◌, [], ◌∷◌, ◌≡◌, Bool, false, ℕ, ◌+◌, ◌≤◌, ◌<◌, length, drop, Result, Ok, is_err, ⊤}
+use Rattle.std.specs.Prelude.{List, ◌++◌, [], ◌∷◌, ◌≡◌, Bool, false, ℕ, ◌+◌, ◌≤◌, ◌<◌, length, drop}
+use Rattle.std.specs.Prelude.{Result, Ok, is_err, ⊤}
 use Rattle.text.specs.declared.check.Fault.{Fault}
 use Rattle.diagram.specs.Node.{capacity}
 use Rattle.text.specs.Text.{Bytes, LF, lines}
@@ -198,7 +199,8 @@ RunsGate l l' r x = GateEnsures l.text.now l.qubits r l.engine.diagram.now.store
     l'.engine.diagram.now.store.now (stand false l) (stand (is_err x) l')
 
 abbrev pub RunsGates : Lists → Lists → ℕ → ℕ → Result ⊤ Refusal → Type 0
-RunsGates l l' r count x = GatesEnsures (part_of l r count) l.engine.diagram.now.store.now l'.engine.diagram.now.cache.now
+RunsGates l l' r count x =
+    GatesEnsures (part_of l r count) l.engine.diagram.now.store.now l'.engine.diagram.now.cache.now
     l'.engine.diagram.now.store.now (stand false l) (stand (is_err x) l')
 
 abbrev pub RunsList : Lists → Lists → ℕ → ℕ → Result ⊤ Refusal → Type 0

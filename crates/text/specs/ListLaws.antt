@@ -11,7 +11,8 @@ use Rattle.text.specs.VerdictSession.{NumberedCall, gate_calls, at_line, gates_c
 use Rattle.text.specs.Split.{part, Ends, end_from}
 use Rattle.text.specs.Engine.{EngineInvariant}
 use Rattle.text.specs.Perform.{PerformState, ruling_from, PerformsCalls}
-use Rattle.text.specs.List.{ListState, list_state_of, ruling_from_state, PerformsLines, LineAhead, LinePassed, OpenEnsures}
+use Rattle.text.specs.List.{ListState, list_state_of, ruling_from_state, PerformsLines, LineAhead, LinePassed}
+use Rattle.text.specs.List.{OpenEnsures}
 use Rattle.text.specs.List.{GateEnsures, GateRequires, GatesRequires, GatesLoop, GateLines, GatesEnsures}
 use Rattle.text.specs.List.{GateList, gate_list, GatesReached, ListEnds, next_line, ListRequires, ListEnsures}
 use Rattle.text.specs.SplitLaws.{ends_from}

@@ -26,5 +26,6 @@ pub record SetsUnless (c' s s' : List ℕ) (e : Contents) (d : ℕ) (test : Bool
 
 -- the same, of an engine e before the call and e' after it
 abbrev pub SetsOr : Engine → Engine → ℕ → Bool → Step indices → Result Answer Refusal → Type 0
-SetsOr e e' d test f a = SetsUnless e'.diagram.now.cache.now e.diagram.now.store.now e'.diagram.now.store.now (contents e) d test f
+SetsOr e e' d test f a =
+    SetsUnless e'.diagram.now.cache.now e.diagram.now.store.now e'.diagram.now.store.now (contents e) d test f
     (reply a e')

@@ -40,5 +40,6 @@ Performs e e' xs r = PerformsCalls e.diagram.now.store.now e'.diagram.now.cache.
     (record { refused = false; engine = contents e }) xs (record { refused = is_err r; engine = contents e' })
 
 abbrev pub DropsAndCollects : Engine → Engine → Type 0
-DropsAndCollects e e' = DropCollectEnsures e.diagram.now.store.now e'.diagram.now.cache.now e'.diagram.now.store.now (contents e)
+DropsAndCollects e e' =
+    DropCollectEnsures e.diagram.now.store.now e'.diagram.now.cache.now e'.diagram.now.store.now (contents e)
     (contents e')

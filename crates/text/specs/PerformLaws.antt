@@ -32,7 +32,8 @@ use Rattle.diagram.specs.declared.registers.Registers.{Registers}
 use Rattle.diagram.specs.declared.node.Edge.{Edge}
 use Rattle.diagram.specs.declared.gate.Gate.{Gate}
 
-ruling_continue : (c : Capacity) (line : ℕ) (a : Result Answer Refusal) (t : Tally indices) (f : Tally indices → PerformResult indices)
+ruling_continue : (c : Capacity) (line : ℕ) (a : Result Answer Refusal) (t : Tally indices)
+    (f : Tally indices → PerformResult indices)
     → ruling_at_end c (continue_with line (a, t) f) ≡ cond (is_err a) (no_at Full line) (ruling_at_end c (f t))
 unfolding continue_with ruling_at_end
 ruling_continue c line (Ok a) t f = refl

@@ -19,7 +19,8 @@ use Rattle.text.specs.Agrees.{line, Agrees, Passes, before_stop, start, OneLine,
 use Rattle.text.specs.Split.{part, Ends}
 use Rattle.text.specs.Engine.{Contents, Reply, tally_of, EngineInvariant, EngineStartEnsures}
 use Rattle.text.specs.Respond.{ReplyEnsures}
-use Rattle.text.specs.Progress.{RunState, run_of, AnswerLineEnsures, ResumeLineEnsures, result_of, result_at_start, run_from}
+use Rattle.text.specs.Progress.{RunState, run_of, AnswerLineEnsures, ResumeLineEnsures, result_of}
+use Rattle.text.specs.Progress.{result_at_start, run_from}
 use Rattle.text.specs.Progress.{ResumeEnsures, ResumeLoop, stopped_progress, ResumeLineRequires}
 use Rattle.text.specs.SplitLaws.{drop_further, drop_take, take_more, get_or_next, drop_one, ends_from, lines_first}
 use Rattle.text.specs.SplitLaws.{lines_none, lines_count}

@@ -51,7 +51,8 @@ pub record ReplyEnsures (c' s s' : List ℕ) (e : Contents) (x : Result Call Ref
 
 -- the same, of an engine e before the call and e' after it
 abbrev pub Responds : Engine → Engine → Call → Result Answer Refusal → Type 0
-Responds e e' x a = RespondEnsures e'.diagram.now.cache.now e.diagram.now.store.now e'.diagram.now.store.now (contents e) x
+Responds e e' x a =
+    RespondEnsures e'.diagram.now.cache.now e.diagram.now.store.now e'.diagram.now.store.now (contents e) x
     (reply a e')
 
 abbrev pub Replies : Engine → Engine → Result Call Refusal → Result Answer Refusal → Type 0

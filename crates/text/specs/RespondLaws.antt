@@ -1,5 +1,5 @@
 -- Laws of Respond: the operands, and the refusals in order.
-use Rattle.std.specs.Prelude.{◌≡◌, ◌≢◌, Bool, cond, ◌-◌, ℕ, ◌<◌, set, Result, Some, None, ok_or}
+use Rattle.std.specs.Prelude.{◌≡◌, ◌≢◌, Bool, cond, ◌-◌, ℕ, ◌<◌, set, Result, Some}
 use Rattle.std.specs.Prelude.{Ok, Err}
 use Rattle.std.proofs.Common.{subst, ◌∙◌, arith}
 use Rattle.std.proofs.Math.Path.{sym, ap, refl}
@@ -28,7 +28,7 @@ use Rattle.text.specs.Session.{TallyReply, refuse, with_tensor, with_register, a
 use Rattle.text.specs.Session.{node_count, accept}
 use Rattle.text.specs.Engine.{Contents, Reply, EngineInvariant, tally_of, FullForgets, SetsRegister, SettleEnsures}
 use Rattle.text.specs.Operate.{SetsUnless}
-use Rattle.text.specs.Respond.{OperandRead, RespondEnsures, ReplyEnsures, Forgets}
+use Rattle.text.specs.Respond.{RespondEnsures, ReplyEnsures, Forgets}
 use Rattle.text.specs.EngineLaws.{sets_register_constant, sets_register_step, never_full}
 use Rattle.text.specs.declared.call.Call.{Call}
 use Rattle.diagram.specs.declared.node.Edge.{Edge}
@@ -62,14 +62,6 @@ pub read_ranged : {x : Result Call Refusal} {y : Call} → Ranged x → x ≡ Ok
 read_ranged h q = rw q at h
 
 -- an operand
-
-pub operand_read : {rs : List Register} {a : ℕ} {h : Register} {r : Result Edge Refusal} → GetEnsures rs a h
-    → r ≡ ok_or h Empty → OperandRead rs a r
-operand_read {rs} {a} {h} {r} g q = go h g q
-  where
-    go : (h : Register) → GetEnsures rs a h → r ≡ ok_or h Empty → OperandRead rs a r
-    go None g q = rw q (refl, g)
-    go (Some x) g q = rw q g
 
 module _ (s : List ℕ) (e : Contents) {a : ℕ} (f : Tensor indices → TallyReply indices) where
   pub operand : {x : Edge} → GetEnsures e.registers.all a (Some x)
@@ -277,7 +269,8 @@ small_comparison A B (compare.Factor f) n = omega (arith, n.small)
 small_comparison A B compare.Differ n = tt
 
 -- a call that answers n and leaves everything as it was
-answers_only : {c s : List ℕ} {e : Contents} {x : Call} {n : Result Answer Refusal} → EngineInvariant c s e → SmallAnswer n
+answers_only : {c s : List ℕ} {e : Contents} {x : Call} {n : Result Answer Refusal} → EngineInvariant c s e
+    → SmallAnswer n
     → answer (at_most (capacity s)) x (tally_of s e) ≡ (n, tally_of s e)
     → Forgets x c (record { answer = n; engine = e })
     → RespondEnsures c s s e x (record { answer = n; engine = e })
@@ -310,7 +303,8 @@ module _ {c s : List ℕ} {e : Contents} {a : ℕ} {x : Edge} (p : EngineInvaria
   unfolding answer
   responds_at {v} {w} n =
       answers_only p (omega (arith, n.small))
-      (operand s e _ i ∙ ap (λ n. (Ok (Value n), tally_of s e)) (sym (represents_number n))) (never_full (Ok (Value w)) refl)
+      (operand s e _ i ∙ ap (λ n. (Ok (Value n), tally_of s e)) (sym (represents_number n)))
+      (never_full (Ok (Value w)) refl)
 
   pub responds_on : {m : ℕ} → m ≡ support_mask (tensor_of s e.state x) → m < masks
       → RespondEnsures c s s e (call.On a) (record { answer = Ok (Mask m); engine = e })

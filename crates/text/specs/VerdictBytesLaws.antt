@@ -95,7 +95,8 @@ module _ {X : Type 0} (Of : ℕ → List Gate → X → Type 0) (E : X → X →
   )
 
   same_ruling : (ruling_on indices c text ≡ Ok Same) ↔ ListsAre Of c text E
-  same_ruling = exactly E (Ok Same) (λ f line e. let z : ◌≡◌ {A = ℕ} 0 1 = cc in omega arith) (λ n gs hs k. k.meaning.same)
+  same_ruling =
+      exactly E (Ok Same) (λ f line e. let z : ◌≡◌ {A = ℕ} 0 1 = cc in omega arith) (λ n gs hs k. k.meaning.same)
 
   differ_ruled : (ruling_on indices c text ≡ Ok Differ)
       ↔ ListsAre Of c text (λ A B. (¬ E A B) × (¬ ((f : ℕ) × (T f A B ⊎ T f B A))))
@@ -113,7 +114,8 @@ module _ {X : Type 0} (Of : ℕ → List Gate → X → Type 0) (E : X → X →
   factor_ruled = (
     λ p.
         lists_are _
-        (λ g line z. let y : Ok (Factor p.0) ≡ no_at g line = sym p.1 ∙ z in let o : ◌≡◌ {A = ℕ} 0 1 = cc in omega arith)
+        (λ g line z.
+        let y : Ok (Factor p.0) ≡ no_at g line = sym p.1 ∙ z in let o : ◌≡◌ {A = ℕ} 0 1 = cc in omega arith)
         (λ n gs hs k. k.meaning.factor.0 p),
     ruling_from_lem _ _ (λ n gs hs k. k.meaning.factor.1),
   )

@@ -47,7 +47,8 @@ pub record VerdictMeans (c : Capacity) (text : Bytes) (n : ℕ) (gs hs : List Ga
   pub no_other : (f : Fault) (line : ℕ) → ruling_on indices c text ≢ no_at f line
   -- which f: "`factor` and f where a is f times b, f not 0 or 1"
   pub factor_of : (f : ℕ)
-      → (ruling_on indices c text ≡ Ok (Factor f)) ↔ ((¬ AgreeEverywhere first second) × (f ≢ 1) × IsTimes f first second)
+      → (ruling_on indices c text ≡ Ok (Factor f))
+      ↔ ((¬ AgreeEverywhere first second) × (f ≢ 1) × IsTimes f first second)
 
 -- The same in terms of the lists' matrices.
 

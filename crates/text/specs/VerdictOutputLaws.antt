@@ -89,7 +89,9 @@ module _ (c : Capacity) (text : Bytes) where
   factor_small f q = go (read_text text) refl
     where
       no_refusal : (g : Fault) (line : ℕ) → ruling_on indices c text ≢ no_at g line
-      no_refusal g line p = let z : Ok (Factor f) ≡ no_at g line = sym q ∙ p in let o : ◌≡◌ {A = ℕ} 0 1 = cc in omega arith
+      no_refusal g line p =
+          let z : Ok (Factor f) ≡ no_at g line = sym q ∙ p in
+          let o : ◌≡◌ {A = ℕ} 0 1 = cc in omega arith
 
       go : (x : Reading) → read_text text ≡ x → f < modulus
       go (lists n gs hs) e = (((verdict_means c text e (no_refusal Full)).factor_of f).0 q).2.weight

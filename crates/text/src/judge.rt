@@ -1,8 +1,9 @@
 // The verdict on a text (document 01, "Verdicts"): every line is read, both lists are run, and their registers are
 // compared.
-ghost use Rattle.std.specs.Prelude.{◌≡◌, ◌≤◌};
+ghost use Rattle.std.specs.Prelude.{◌≡◌, ◌≤◌, Err};
 ghost use Rattle.text.specs.Limits.{most_qubits};
 ghost use Rattle.text.specs.Check.{GoodText};
+ghost use Rattle.text.specs.Ruling.{no_at};
 ghost use Rattle.text.specs.List.{IsLists, ListAhead};
 ghost use Rattle.text.specs.VerdictSession.{ruling_of_answer};
 ghost use Rattle.text.specs.Judge.{JudgesSecond, JudgeEnsures, VerdictEnsures};
@@ -29,17 +30,23 @@ fn ruling_of(answer: Result<Answer, Refusal>) -> Comparison
     }
 }
 
+// "8 full, at the line being run"
+fn full_at(line: LineNumber) -> FaultAt
+    ensures { Err result ≡ no_at Fault.Full line }
+{
+    FaultAt {
+        fault: Fault::Full,
+        line,
+    }
+}
+
 // The second list, from the line `=` on, and "then `cmp 0 1`".
 fn second(lists: &mut Lists, count: usize) -> Result<Comparison, FaultAt>
     requires { IsLists lists.old × (ListAhead lists.old 1 count ×
         ((1 ≤ lists.old.qubits) × (lists.old.qubits ≤ most_qubits))) }
     ensures { JudgesSecond lists.old count result }
 {
-    // "8 full, at the line being run"
-    lists.run(1, count).or(Err(FaultAt {
-        fault: Fault::Full,
-        line: lists.line,
-    }))?;
+    lists.run(1, count).map_err(|_| full_at(lists.line))?;
     Ok(ruling_of(lists.engine.cmp(0, 1)))
 }
 
@@ -68,10 +75,7 @@ fn run(
         place: 0,
         engine,
     };
-    lists.run(0, parting - 2).or(Err(FaultAt {
-        fault: Fault::Full,
-        line: lists.line,
-    }))?;
+    lists.run(0, parting - 2).map_err(|_| full_at(lists.line))?;
     second(&mut lists, count - parting)
 }
 

@@ -1,11 +1,7 @@
 use Rattle.std.proofs.lemmas.Result.{err_from_is_err_and}
 use borrow.Author.Rules.{rules}
-use Rattle.text.specs.QubitsLaws.{placed_allowed}
 use Rattle.text.specs.ApplyLaws.{apply_rising, apply_full, apply_ready, apply_refines}
 use Rattle.text.proofs.apply.apply.Goals as goal
-
-pub gate-requires : goal.gate-requires
-gate-requires c = (search rules, search (rules, placed_allowed))
 
 pub returns-in_err-a-clause-does : goal.returns-in_err-a-clause-does
 returns-in_err-a-clause-does c =

@@ -1,15 +1,9 @@
 use Rattle.std.proofs.lemmas.Result.{err_from_is_err_and}
 use borrow.Author.Rules.{rules}
-use Rattle.text.specs.QubitsLaws.{below_one, below_first, below_second}
-use Rattle.text.specs.ApplyLaws.{free_one, free_first, free_second, ready_second, renamed_one, renamed_two}
+use Rattle.text.specs.QubitsLaws.{below_second}
+use Rattle.text.specs.ApplyLaws.{free_second, ready_second, renamed_one, renamed_two}
 use Rattle.text.specs.ApplyLaws.{renamed_full}
 use Rattle.text.proofs.apply.rename_all.Goals as goal
-
-pub rename-requires : goal.rename-requires
-rename-requires c = (search rules, (search (rules, below_one), search (rules, free_one)))
-
-pub rename-requires-in-Two : goal.rename-requires-in-Two
-rename-requires-in-Two c = (search rules, (search (rules, below_first), search (rules, free_first)))
 
 pub returns-in_err-e-in-Two-clause-does : goal.returns-in_err-e-in-Two-clause-does
 returns-in_err-e-in-Two-clause-does c =

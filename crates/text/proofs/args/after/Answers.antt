@@ -8,15 +8,12 @@ use Rattle.std.proofs.lemmas.Iterator.Consumers.{YieldsList-turn, YieldsList-end
 use Rattle.std.proofs.lemmas.List.{length_push}
 use Rattle.text.specs.Split.{fields_after}
 use Rattle.text.specs.SplitLaws.{fields_yielded}
-use Rattle.text.specs.ArgsLaws.{args_loop_start, args_loop_next, args_loop_malformed, args_loop_fifth, args_loop_end}
+use Rattle.text.specs.ArgsLaws.{args_loop_next, args_loop_malformed, args_loop_fifth, args_loop_end}
 use Rattle.text.specs.ArgsLaws.{no_fields}
 use Rattle.text.proofs.args.after.Goals as goal
 
 pub returns-then-e-line : goal.returns-then-e-line
 returns-then-e-line c = no_fields _ _ _ (omega (arith, c.if-e-line.true))
-
-pub loop-field-init : goal.loop-field-init
-loop-field-init c = args_loop_start
 
 pub returns-in_err-read : goal.returns-in_err-read
 returns-in_err-read c =

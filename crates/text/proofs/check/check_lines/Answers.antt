@@ -2,11 +2,8 @@
 use Rattle.std.specs.Prelude.{◌≡◌, Err}
 use Rattle.std.proofs.Common.{rules, ◌∙◌}
 use Rattle.text.specs.Check.{checked_at_end}
-use Rattle.text.specs.CheckTextLaws.{check_loop_start, check_loop_next, check_loop_fault, check_loop_end}
+use Rattle.text.specs.CheckTextLaws.{check_loop_next, check_loop_fault, check_loop_end}
 use Rattle.text.proofs.check.check_lines.Goals as goal
-
-pub loop-a-init : goal.loop-a-init
-loop-a-init c = check_loop_start c.requires.0 c.requires.1
 
 pub returns-in_err-parting : goal.returns-in_err-parting
 returns-in_err-parting c =

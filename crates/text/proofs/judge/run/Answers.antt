@@ -1,7 +1,7 @@
 use Rattle.std.specs.Prelude.{◌≡◌, is_err, true, false}
 use borrow.Author.Rules.{rules}
 use Rattle.text.specs.Ruling.{no_at}
-use Rattle.text.specs.JudgeLaws.{first_ahead, parting_within, first_refused, second_ahead, judge_ensures}
+use Rattle.text.specs.JudgeLaws.{first_ahead, first_refused, second_ahead, judge_ensures}
 use Rattle.text.specs.declared.check.Fault.TheVariants.{Full}
 use Rattle.text.proofs.judge.run.Goals as goal
 
@@ -9,15 +9,12 @@ pub run-requires : goal.run-requires
 run-requires c =
     (c.start.ensures.start.invariant, (first_ahead c.requires.0, (search rules, (c.requires.1.0, c.requires.1.1))))
 
-pub returns-in_err-or : goal.returns-in_err-or
-returns-in_err-or c =
+pub returns-in_err-map_err : goal.returns-in_err-map_err
+returns-in_err-map_err c =
     let refused : is_err c.run.result ≡ true = search rules in
     let at : c.from_residual.result ≡ no_at Full c.run.new.self.line = search rules in
     rw (at, ← c.over-diagram.ensures.store.1)
     (first_refused c.requires.0 c.start.ensures.start c.run.ensures.runs refused)
-
-pub overflow_sub-count : goal.overflow_sub-count
-overflow_sub-count c = search (rules, parting_within)
 
 pub second-requires : goal.second-requires
 second-requires c =

@@ -5,8 +5,8 @@ use Rattle.text.specs.JudgeLaws.{second_refused, second_ensures}
 use Rattle.text.specs.declared.check.Fault.TheVariants.{Full}
 use Rattle.text.proofs.judge.second.Goals as goal
 
-pub returns-in_err-or : goal.returns-in_err-or
-returns-in_err-or c =
+pub returns-in_err-map_err : goal.returns-in_err-map_err
+returns-in_err-map_err c =
     let refused : is_err c.run.result ≡ true = search rules in
     let at : c.from_residual.result ≡ no_at Full c.run.new.self.line = search rules in
     rw at (second_refused c.run.ensures.runs refused)

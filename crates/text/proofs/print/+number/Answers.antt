@@ -1,20 +1,10 @@
 -- The digits but the last are put by the call on n / 10, which is less than n; then the last one.
 use native.Mathlib.Omega.{arith}
-use lib.ListN.{length-set}
 use Rattle.text.specs.PrintLaws.{digit_room, digit_put, digits_room, last_room, last_put}
 use Rattle.text.proofs.print.+number.Goals as goal
 
-pub digit_byte-requires : goal.digit_byte-requires
-digit_byte-requires t c = omega arith
-
 pub bounds-out-at : goal.bounds-out-at
 bounds-out-at t c = digit_room _ _ _ c.if-n-lt10.true c.requires
-
-pub overflow_add-result : goal.overflow_add-result
-overflow_add-result t c = omega (arith, digit_room _ _ _ c.if-n-lt10.true c.requires, c.well_formed)
-
-pub shape_of-out-then-n-lt10 : goal.shape_of-out-then-n-lt10
-shape_of-out-then-n-lt10 t c = simp length-set
 
 pub returns-then-n-lt10 : goal.returns-then-n-lt10
 returns-then-n-lt10 t c = rw c.digit_byte.ensures (digit_put _ _ _ c.if-n-lt10.true c.requires)
@@ -24,9 +14,6 @@ number-e-requires t c = (
   omega (arith, c.decreases),
   omega (arith, digits_room _ _ _ c.if-n-lt10.false c.ranges.n.fits c.requires),
 )
-
-pub digit_byte-requires-2 : goal.digit_byte-requires-2
-digit_byte-requires-2 t c = omega arith
 
 pub bounds-out-e : goal.bounds-out-e
 bounds-out-e t c = (last_room c.if-n-lt10.false c.ranges.n.fits c.requires c.number-e.ensures).0
@@ -38,11 +25,6 @@ overflow_add-result-2 t c =
       last_room c.if-n-lt10.false c.ranges.n.fits c.requires c.number-e.ensures,
       c.well_formed,
     )
-
-pub shape_of-out : goal.shape_of-out
-shape_of-out t c =
-    simp length-set (last_room c.if-n-lt10.false c.ranges.n.fits c.requires
-    c.number-e.ensures).1
 
 pub returns : goal.returns
 returns t c =

@@ -1,6 +1,6 @@
 use Rattle.std.specs.Prelude.{refl}
 use borrow.Author.Rules.{rules}
-use Rattle.text.specs.ProgressLaws.{resume_line_less, resume_loop_start, resume_loop_line, resume_loop_next}
+use Rattle.text.specs.ProgressLaws.{resume_loop_start, resume_loop_line, resume_loop_next}
 use Rattle.text.specs.ProgressLaws.{resume_loop_limit, resume_loop_stop, resume_loop_end}
 use Rattle.text.proofs.engine.Engine.resume.Goals as goal
 
@@ -13,12 +13,6 @@ returns-then-p-limit-clause-resumes c = search (rules, resume_loop_limit)
 pub returns-then-short-clause-resumes : goal.returns-then-short-clause-resumes
 returns-then-short-clause-resumes c =
     resume_loop_stop c.loop-p.invariant.0 c.loop-p-test.true c.if-p-limit.false c.if-short.true refl
-
-pub resume_line-p-requires : goal.resume_line-p-requires
-resume_line-p-requires c = (search rules, search (rules, resume_loop_line))
-
-pub loop-p-smaller : goal.loop-p-smaller
-loop-p-smaller c = search (rules, resume_line_less)
 
 pub loop-p-preserved : goal.loop-p-preserved
 loop-p-preserved c =

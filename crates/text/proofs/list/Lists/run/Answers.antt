@@ -1,7 +1,6 @@
 use Rattle.std.specs.Prelude.{refl}
 use Rattle.std.proofs.lemmas.Result.{err_from_is_err_and}
-use borrow.Author.Rules.{rules}
-use Rattle.text.specs.ListLaws.{gates_ahead, list_ensures, list_refused}
+use Rattle.text.specs.ListLaws.{list_ensures, list_refused}
 use Rattle.text.proofs.list.Lists.run.Goals as goal
 
 pub returns-in_err-open-clause-runs : goal.returns-in_err-open-clause-runs
@@ -9,16 +8,6 @@ returns-in_err-open-clause-runs c =
     let p = err_from_is_err_and c.from_residual.result c.from_residual.ensures.1 in
     let o = c.in_err-open.ensures in
     rw p.1 (list_refused c.requires.1.0 o.text.engine.loans.long o.opens refl)
-
-pub gates-requires : goal.gates-requires
-gates-requires c =
-    let o = c.in_ok-open.ensures in (
-      search rules,
-      (
-        rw (o.text.same_text, o.text.same_qubits) (gates_ahead c.requires.1.0 o.opens),
-        (search rules, search rules),
-      ),
-    )
 
 pub returns-clause-runs : goal.returns-clause-runs
 returns-clause-runs c =
