@@ -1,5 +1,6 @@
 -- Laws of the operation cache: epochs, what is remembered as nodes are added, an entry written, an entry found.
-use Rattle.std.specs.Prelude.{◌≡◌, refl, ◌⊎◌, ◌≢◌, List, ℕ, ◌+◌, ◌*◌, ◌≤◌, ◌/◌, ◌%◌, ◌<◌, length, get_or, set, Option, Some}
+use Rattle.std.specs.Prelude.{◌≡◌, refl, ◌⊎◌, ◌≢◌, List, ℕ, ◌+◌, ◌*◌}
+use Rattle.std.specs.Prelude.{◌≤◌, ◌/◌, ◌%◌, ◌<◌, length, get_or, set, Option, Some}
 use Rattle.std.proofs.Common.{ap, sym, subst, ◌∙◌, inl, inr, arith}
 use Rattle.std.proofs.Math.Decide.{ℕ_discrete}
 use Rattle.std.proofs.Math.ListN.{length-set}

@@ -72,7 +72,8 @@ module _ {c s s' : List ℕ} {st : State} {rs : List Register} (p : Invariant c 
   pub refines_rollback : RefinesFull s s' st f → RollbackRequires c s' st
   refines_rollback w = rollback_of p.sound w.long w.kept p.cache.past
 
-  pub cached_rollback : {c' : List ℕ} {t : State} {x : Full} → RefinesCached c' s s' st t f (Err x) → RollbackRequires c' s' st
+  pub cached_rollback : {c' : List ℕ} {t : State} {x : Full} → RefinesCached c' s s' st t f (Err x)
+      → RollbackRequires c' s' st
   cached_rollback w = full_rollback p.sound w
 
 pub invariant_rollback : {c' s s' : List ℕ} {st st' : State} {rs : List Register}

@@ -211,7 +211,8 @@ module _ {s : List ℕ} {st : State} {k : ℕ} {l h : Edge} (held : Sound s st) 
 
   -- equal edges give the edge back
   pub join_equal : b ≡ true → RefinesEdge s s st st (join k (tensor_of s st l) (tensor_of s st h)) l
-  join_equal e = refines_stays held j.low (join_same k _ _ _ (eq_same (ap (tensor_of s st) ((edge_told l h).0 (sym told ∙ e)))))
+  join_equal e =
+      refines_stays held j.low (join_same k _ _ _ (eq_same (ap (tensor_of s st) ((edge_told l h).0 (sym told ∙ e)))))
 
   module _ (differ : b ≡ false) where
     ne : l ≢ h

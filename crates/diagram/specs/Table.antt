@@ -1,7 +1,8 @@
 -- The unique table: a hash table in the records. The head of bucket b is in record b, the next node of n's chain in n's
 -- own record. A new node comes to the front of its chain, so numbers fall along a chain, and both fields are given by
 -- `last`: the last node of a bucket up to a number.
-use Rattle.std.specs.Prelude.{◌≡◌, cond, ◌≢◌, List, ℕ, ◌+◌, ◌*◌, ◌≤◌, ◌<◌, ◌-◌, zero, suc, length, eqb, Option, Some, None}
+use Rattle.std.specs.Prelude.{◌≡◌, cond, ◌≢◌, List, ℕ, ◌+◌, ◌*◌, ◌≤◌}
+use Rattle.std.specs.Prelude.{◌<◌, ◌-◌, zero, suc, length, eqb, Option, Some, None}
 use Rattle.std.specs.Int.Bits.{bit_and}
 use Rattle.diagram.specs.Node.{node_at, head_at, next_at}
 use Rattle.diagram.specs.declared.node.Node.{Node}

@@ -1,5 +1,6 @@
 -- Laws of the unique table: the last node of a bucket, buckets in range, the walk along a chain.
-use Rattle.std.specs.Prelude.{◌≡◌, refl, Bool, true, false, cond, ◌≢◌, List, ℕ, zero, suc, ◌≤◌, ◌<◌, ◌-◌, eqb, Some, None, unwrap_or}
+use Rattle.std.specs.Prelude.{◌≡◌, refl, Bool, true, false, cond, ◌≢◌, List, ℕ}
+use Rattle.std.specs.Prelude.{zero, suc, ◌≤◌, ◌<◌, ◌-◌, eqb, Some, None, unwrap_or}
 use Rattle.std.proofs.Math.Path.{ap}
 use Rattle.std.proofs.Common.{ap₂, sym, subst, ◌∙◌, eqb-true, eq-eqb, ne_eqb}
 use native.Mathlib.Omega.{arith}

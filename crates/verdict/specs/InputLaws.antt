@@ -1,5 +1,6 @@
 -- Bytes taken in one after the other, and read after read.
-use Rattle.std.specs.Prelude.{◌≡◌, refl, [], ◌∷◌, ◌++◌, ℕ, zero, suc, ◌+◌, ◌≢◌, ◌≤◌, ◌<◌, length, take, get_or, ⊤, Result, Ok, Err, IsErr}
+use Rattle.std.specs.Prelude.{◌≡◌, refl, [], ◌∷◌, ◌++◌, ℕ, zero, suc, ◌+◌, ◌≢◌}
+use Rattle.std.specs.Prelude.{◌≤◌, ◌<◌, length, take, get_or, ⊤, Result, Ok, Err, IsErr}
 use Rattle.std.proofs.Common.{sym, subst, append-nil, append_assoc, add-one, arith, length-append, take-suc, take_all}
 use Rattle.std.proofs.lemmas.Bool.{false≢true}
 use Rattle.std.proofs.Math.Seq.{take-nil}

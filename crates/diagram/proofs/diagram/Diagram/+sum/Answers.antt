@@ -5,7 +5,8 @@ use Rattle.diagram.specs.CacheLaws.{lookup_is}
 use Rattle.diagram.specs.OperationLaws.{cached_fits, cached_hit, cached_kept}
 use Rattle.diagram.specs.OperationHalvesLaws.{inside, fixable_left, fixable_right, part_ready, part_less}
 use Rattle.diagram.specs.SumLaws.{sum_left, sum_right, sum_one, sum_reduced_measure, sum_reduced_ready}
-use Rattle.diagram.specs.SumLaws.{sum_reduced, sum_times, sum_times_full, sum_key_fits, sum_key_step, sum_known, sum_some}
+use Rattle.diagram.specs.SumLaws.{sum_reduced, sum_times, sum_times_full}
+use Rattle.diagram.specs.SumLaws.{sum_key_fits, sum_key_step, sum_known, sum_some}
 use Rattle.diagram.specs.SumLaws.{sum_low_full, sum_high_ready, sum_measure, sum_low_refines, sum_high_full}
 use Rattle.diagram.specs.SumLaws.{sum_joinable, sum_high_refines}
 use Rattle.diagram.proofs.diagram.Diagram.+sum.Goals as goal

@@ -1,5 +1,5 @@
 -- The table is made anew for the old count, where the store holds a record at all.
-use Rattle.diagram.specs.RestoreLaws.{rollback_table, rollback_ensures}
+use Rattle.diagram.specs.RestoreLaws.{rollback_ensures}
 use borrow.Author.Rules.{rules}
 use Rattle.diagram.proofs.diagram.Diagram.rollback.Goals as goal
 
