@@ -14,7 +14,7 @@ use Rattle.text.specs.declared.answer.Answer.{Answer}
 use Rattle.text.specs.declared.engine.Engine.{Engine}
 use Rattle.text.specs.declared.call.Call.TheVariants as call
 
--- the edge that register a holds; "3 (a .. empty)"
+-- the edge that register a holds; or "3 (a or b empty)"
 abbrev pub OperandRead : List Register → ℕ → Result Edge Refusal → Type 0
 OperandRead rs a r =
     MatchResult r (λ x. GetEnsures rs a (Some x)) (λ why. (why ≡ Empty) × GetEnsures rs a empty_register)

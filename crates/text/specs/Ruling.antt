@@ -21,11 +21,12 @@ fault_number Equal = 13
 fault_number Parting = 14
 fault_number Full = 8
 
--- what a text is answered: how its lists compare, or the fault for which it is refused and the line of that
+-- Verdicts are "answered as in sessions", here by how the lists compare; or "Refused as `no`, number, line counted
+-- from 1"
 abbrev pub Ruling : Type 0
 Ruling = Result Comparison FaultAt
 
--- it is refused for this fault at this line
+-- "`no`, number, line"
 abbrev pub no_at : Fault → ℕ → Ruling
 no_at f line = Err (record { fault = f; line = line })
 
