@@ -7,7 +7,7 @@
 mod run;
 
 use std::io;
-use std::io::BufReader;
+use std::io::{BufReader, ErrorKind};
 
 // 2048 nodes of 16 bytes.
 const STORE: usize = 32768;
@@ -23,12 +23,13 @@ fn main(rt: HostRuntime) -> io::Result<()> {
     let mut cache = [0u64; CACHE];
     // A proved loop has to end, and nothing says that an input does: no run uses this count up.
     for _ in 0..u64::MAX {
-        // A read that fails counts as the input's end, and a last part without its byte 0 is no text.
-        if !stdin::read_text(&mut input, 0, &mut text).unwrap_or(false) {
-            break;
+        match stdin::read_text(&mut input, 0, &mut text) {
+            // What cannot be written is left out. The store and the cache go on from text to text as they are left.
+            Ok(true) => run::run(stdout, &text, &mut store, &mut cache).unwrap_or(()),
+            Err(e) if e.kind() == ErrorKind::OutOfMemory => return Err(e),
+            // A read that fails counts as the input's end, and a last part without its byte 0 is no text.
+            _ => break,
         }
-        // What cannot be written is left out. The store and the cache go on from text to text as they are left.
-        run::run(stdout, &text, &mut store, &mut cache).unwrap_or(());
     }
     Ok(())
 }

@@ -5,39 +5,40 @@ mod show;
 
 ghost use Rattle.std.specs.Prelude.{◌≤◌, length};
 ghost use Rattle.text.specs.Limits.{line_room};
+ghost use Rattle.text.specs.Squeeze.{SqueezeFits};
 
 use std::io;
-use std::io::{BufReader, Stdout};
+use std::io::{BufReader, Read, Stdout};
 use text::limits::LINE_ROOM;
 use text::squeeze::Squeeze;
 
-// A line of any length, squeezed into the buffer and read there.
-fn squeezed(stdout: Stdout, line: &mut [u8], bytes: &[u8]) -> io::Result<()>
-    requires { line_room ≤ length line.old }
+// One byte more of the input: a line is shown where it ends. What cannot be written is left out, here and below.
+fn step(stdout: Stdout, line: &mut [u8], squeeze: Squeeze, b: u8) -> Squeeze
+    requires { (line_room ≤ length line.old) × SqueezeFits squeeze }
+    ensures { SqueezeFits result }
 {
-    let mut squeeze = Squeeze::none();
-    for b in bytes {
-        squeeze = squeeze.push(line, *b);
+    if b == b'\n' {
+        show::show(stdout, &line[..squeeze.length]).unwrap_or(());
+        return Squeeze::none();
     }
-    show::show(stdout, &line[..squeeze.length])
+    squeeze.push(line, b)
 }
 
 fn main(rt: HostRuntime) -> io::Result<()> {
     let stdout = rt.stdout();
-    let mut input = BufReader::new(rt.alloc(), rt.stdin())?;
-    let mut bytes = Vec::new(rt.alloc());
+    let input = BufReader::new(rt.alloc(), rt.stdin())?;
     let mut line = [0u8; LINE_ROOM];
-    // A proved loop has to end, and nothing says that an input does: no run uses this count up.
-    for _ in 0..u64::MAX {
-        // A read that fails counts as the input's end. "a last part without LF counts unless empty"
-        let ended = stdin::read_text(&mut input, b'\n', &mut bytes).unwrap_or(false);
-        if ended || !bytes.is_empty() {
-            // What cannot be written is left out.
-            squeezed(stdout, &mut line, &bytes).unwrap_or(());
-        }
-        if !ended {
+    let mut squeeze = Squeeze::none();
+    for b in input.bytes() {
+        // A read that fails counts as the input's end.
+        let Ok(b) = b else {
             break;
-        }
+        };
+        squeeze = step(stdout, &mut line, squeeze, b);
+    }
+    // "a last part without LF counts unless empty"; of a line that has a byte, one is kept.
+    if 0 < squeeze.length {
+        show::show(stdout, &line[..squeeze.length]).unwrap_or(());
     }
     Ok(())
 }

@@ -11,7 +11,7 @@ mod header;
 mod run;
 
 use std::io;
-use std::io::BufReader;
+use std::io::{BufReader, ErrorKind};
 
 // 2048 nodes of 16 bytes.
 const STORE: usize = 32768;
@@ -28,15 +28,15 @@ fn main(rt: HostRuntime) -> io::Result<()> {
     let mut cached = true;
     // A proved loop has to end, and nothing says that an input does: no run uses this count up.
     for _ in 0..u64::MAX {
-        // A read that fails counts as the input's end, and a last part without its byte 0 is no session.
-        if !stdin::read_text(&mut input, 0, &mut text).unwrap_or(false) {
-            break;
-        }
         // The store and the cache go on from session to session as they are left. Every other session is lent a cache
         // of no words.
         let lent = if cached { CACHE } else { 0 };
-        // What cannot be written is left out.
-        run::run(stdout, &text, &mut store, &mut cache[..lent]).unwrap_or(());
+        match stdin::read_text(&mut input, 0, &mut text) {
+            Ok(true) => run::run(stdout, &text, &mut store, &mut cache[..lent]),
+            Err(e) if e.kind() == ErrorKind::OutOfMemory => return Err(e),
+            // A read that fails counts as the input's end, and a last part without its byte 0 is no session.
+            _ => break,
+        }
         cached = !cached;
     }
     Ok(())

@@ -1,7 +1,6 @@
 // One session, and what it answers.
 use crate::header;
 use crate::header::Header;
-use std::io;
 use std::io::{Print, Stdout};
 use text::{session, split};
 
@@ -21,29 +20,23 @@ fn parts(text: &[u8]) -> Option<(Header, &[u8])> {
     Some((header, &text[e + 1..]))
 }
 
-// What the session prints, and how it ended.
-fn answer(
-    stdout: Stdout,
-    text: &[u8],
-    store: &mut [u8],
-    cache: &mut [u64],
-    out: &mut [u8],
-) -> io::Result<()> {
+// What the session prints, and how it ended. What cannot be written is left out, here and below.
+fn answer(stdout: Stdout, text: &[u8], store: &mut [u8], cache: &mut [u64], out: &mut [u8]) {
     let r = session::session(text, store, cache, out);
-    stdout.write_all(&out[..r.bytes])?;
-    println!(stdout; "=\t{}\t{}\t{}\t{}", r.code, r.lines, r.bytes, r.count)
+    stdout.write_all(&out[..r.bytes]).unwrap_or(());
+    println!(stdout; "=\t{}\t{}\t{}\t{}", r.code, r.lines, r.bytes, r.count).unwrap_or(());
 }
 
 // The session is lent the first bytes of the store and of the output.
-pub fn run(stdout: Stdout, text: &[u8], store: &mut [u8], cache: &mut [u64]) -> io::Result<()> {
+pub fn run(stdout: Stdout, text: &[u8], store: &mut [u8], cache: &mut [u64]) {
     if TEXT < text.len() {
-        return println!(stdout; "too long");
+        return println!(stdout; "too long").unwrap_or(());
     }
     let Some((Header { capacity, room }, text)) = parts(text) else {
-        return println!(stdout; "bad header");
+        return println!(stdout; "bad header").unwrap_or(());
     };
     if store.len() / 16 < capacity || OUTPUT < room {
-        return println!(stdout; "bad header");
+        return println!(stdout; "bad header").unwrap_or(());
     }
     let mut out = [0u8; OUTPUT];
     answer(
@@ -52,5 +45,5 @@ pub fn run(stdout: Stdout, text: &[u8], store: &mut [u8], cache: &mut [u64]) -> 
         &mut store[..16 * capacity],
         cache,
         &mut out[..room],
-    )
+    );
 }

@@ -3,7 +3,7 @@
 #![tactic(auto)]
 
 use std::io;
-use std::io::{BufReader, Stdout};
+use std::io::{BufReader, ErrorKind, Stdout};
 use text::check;
 
 // The longest text.
@@ -25,12 +25,13 @@ fn main(rt: HostRuntime) -> io::Result<()> {
     let mut text = Vec::new(rt.alloc());
     // A proved loop has to end, and nothing says that an input does: no run uses this count up.
     for _ in 0..u64::MAX {
-        // A read that fails counts as the input's end, and a last part without its byte 0 is no text.
-        if !stdin::read_text(&mut input, 0, &mut text).unwrap_or(false) {
-            break;
+        match stdin::read_text(&mut input, 0, &mut text) {
+            // What cannot be written is left out.
+            Ok(true) => show(stdout, &text).unwrap_or(()),
+            Err(e) if e.kind() == ErrorKind::OutOfMemory => return Err(e),
+            // A read that fails counts as the input's end, and a last part without its byte 0 is no text.
+            _ => break,
         }
-        // What cannot be written is left out.
-        show(stdout, &text).unwrap_or(());
     }
     Ok(())
 }

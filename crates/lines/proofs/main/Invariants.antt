@@ -1,0 +1,8 @@
+use Rattle.std.proofs.Common.{◌≤◌, length}
+use Rattle.text.specs.Limits.{line_room}
+use Rattle.text.specs.Squeeze.{SqueezeFits}
+use Rattle.lines.proofs.main.Given as goal
+
+abbrev pub invariant-loop-b : goal.invariant-loop-b
+invariant-loop-b l = (line_room ≤ length l.line) × (SqueezeFits l.squeeze ×
+    ((goal.iterator-loop-b).can_next l.b-iterator × (goal.iterator-loop-b).is_finite l.b-iterator))
