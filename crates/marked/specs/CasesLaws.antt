@@ -80,31 +80,7 @@ unfolding touching all_touching growSession.qubits_below growSession.touches gro
     weight.ones_power weight.inverse_w weight.eighth_root weight.imaginary_unit weight.root_two weight.inverse_root_two
     xor
 with_three = (
-  (
-    refl,
-    (
-      refl,
-      (
-        refl,
-        (
-          refl,
-          (
-            refl,
-            (
-              refl,
-              (
-                refl,
-                (
-                  refl,
-                  (refl, (refl, (refl, (refl, (refl, (refl, (refl, (refl, tt)))))))),
-                ),
-              ),
-            ),
-          ),
-        ),
-      ),
-    ),
-  ),
+  (refl, (refl, (refl, (refl, (refl, (refl, (refl, (refl, (refl, (refl, (refl, (refl, (refl, (refl, (refl, (refl, tt)))))))))))))))),
   refl,
 )
 
