@@ -9,12 +9,8 @@ const TEXT: usize = 8192;
 
 // The capacity that the first line asks for, and the text after that line.
 fn header(text: &[u8]) -> Option<(usize, &[u8])> {
-    let e = split::end(text, 0, b'\n');
-    if e == text.len() {
-        return None;
-    }
-    let capacity = number::read(&text[..e], 8)?;
-    Some((capacity, &text[e + 1..]))
+    let (line, rest) = split::first_line(text)?;
+    Some((number::read(line, 8)?, rest))
 }
 
 // The verdict is lent the first bytes of the store.

@@ -7,6 +7,7 @@ use Rattle.std.proofs.Math.Option.{some}
 use Rattle.std.proofs.Math.Decide.{ℕ_discrete}
 use Rattle.field.specs.Weight.{Weight, to_weight, 0w, 1w, Nonzero, times_w, same_w}
 use Rattle.field.specs.RingLaws.{weight_injective, nonzero_weight, weight_zero, one_nonzero, not_zero, same_w_eq}
+use Rattle.std.proofs.Math.Option.{some-injective}
 use Rattle.diagram.specs.Tensor.{top, fix, joined, constant, is_zero, scale, first, Normal, Tensor, normal}
 use Rattle.diagram.specs.TopLaws.{top_joined, free_below_constant, top_free_below, free_below_less, top_is}
 use Rattle.diagram.specs.TopLaws.{top_constant}
@@ -23,7 +24,7 @@ use Rattle.diagram.specs.Top.{FreeBelow}
 use Rattle.diagram.specs.TensorScaleLaws.{is_zero_scale, top_scale, unique_weight, unique_tensor, normal_scale}
 use Rattle.diagram.specs.TensorScaleLaws.{normal_same}
 use Rattle.diagram.specs.NodeLaws.{edge_eq}
-use Rattle.diagram.specs.TestLaws.{some_same, cases, no_some}
+use Rattle.diagram.specs.TestLaws.{cases, no_some}
 use Rattle.diagram.specs.Reach.{Reachable, itself, part, Covers}
 use Rattle.diagram.specs.declared.node.Node.{Node}
 use Rattle.diagram.specs.declared.node.Edge.{Edge}
@@ -247,7 +248,7 @@ module _ (d : ℕ) (xs : List Node) (s : Canonical d xs) where
         z,
         (
           omega arith,
-          some_same (sym (canonical_node_top d xs s (suc n) (omega arith) p)
+          some-injective _ _ (sym (canonical_node_top d xs s (suc n) (omega arith) p)
               ∙ sym (top_scale c (tensor_at (tensors d xs) (suc n)) z) ∙ e),
         ),
       )

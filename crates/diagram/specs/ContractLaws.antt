@@ -7,11 +7,12 @@ use Rattle.field.specs.Weight.{to_weight, 1w, times_w, Nonzero}
 use Rattle.field.specs.Field.{Represents}
 use Rattle.field.specs.RingLaws.{nonzero_weight, weight_one, weight_zero, one_nonzero, nonzero_not}
 use Rattle.field.specs.InverseLaws.{times_nonzero}
+use Rattle.std.proofs.lemmas.Bool.{or_right}
+use Rattle.diagram.specs.TabulateLaws.{bits_none}
 use Rattle.diagram.specs.Tensor.{Tensor, bits, constant, is_zero, scale, fix, without, members, power2, indices}
 use Rattle.diagram.specs.Tensor.{indices_count, members_from, masks, index_count}
 use Rattle.diagram.specs.TensorLaws.{scale_one}
 use Rattle.diagram.specs.TopLaws.{free_below_fix, free_below_times}
-use Rattle.diagram.specs.TestLaws.{or_right}
 use Rattle.diagram.specs.SumOverLaws.{free_below_over}
 use Rattle.diagram.specs.Tally.{Set, both, join, sum, cont}
 use Rattle.diagram.specs.Sets.{PrefixOf}
@@ -21,7 +22,7 @@ use Rattle.diagram.specs.TallyContLaws.{cont_meaning, cont_grows, cont_scaled, c
 use Rattle.diagram.specs.TallyCasesLaws.{cont_zero, cont_both}
 use Rattle.diagram.specs.TallyShareLaws.{two_nonzero, cont_constant, cont_below, scaled_trans, two_power}
 use Rattle.diagram.specs.Reach.{Covers}
-use Rattle.diagram.specs.Meaning.{tensor_at, edge_in}
+use Rattle.diagram.specs.Meaning.{tensor_at, edge_in, nought}
 use Rattle.diagram.specs.MeaningLaws.{at_zero}
 use Rattle.diagram.specs.Store.{set_of, tensor_of, Refines}
 use Rattle.diagram.specs.StoreLaws.{zero_edge, join_grows}
@@ -51,24 +52,21 @@ factored_by p u v w m k r x y z = rw (← x.is, ← y.is) z
 -- "zero if either is zero"
 
 module _ {c s : List ℕ} {st : State} {a b : Edge} (g : OperationRequires c s st a b) (m : ℕ) where
-  abbrev nought : Edge
-  nought = record { weight = 0; node = 0 }
-
   nothing : (is_zero (tensor_of s st a) || is_zero (tensor_of s st b)) ≡ true
       → RefinesCached c s s st st (cont (tensor_of s st a) (tensor_of s st b) (bits m))
-      (Ok (record { weight = 0; node = 0 }))
+      (Ok nought)
   nothing z =
       cached_stays g (record { small = omega arith; within = omega arith; zero = λ _. refl })
       (cont_zero _ _ _ (bits m) z ∙ ap (λ T. (T, set_of s st)) (sym (zero_edge g.sound nought refl)))
 
   pub contract_left : a.weight ≡ 0
       → RefinesCached c s s st st (cont (tensor_of s st a) (tensor_of s st b) (bits m))
-      (Ok (record { weight = 0; node = 0 }))
+      (Ok nought)
   contract_left z = nothing (rw (zero_tensor g.sound a z) refl)
 
   pub contract_right : b.weight ≡ 0
       → RefinesCached c s s st st (cont (tensor_of s st a) (tensor_of s st b) (bits m))
-      (Ok (record { weight = 0; node = 0 }))
+      (Ok nought)
   contract_right z = nothing (or_right (is_zero (tensor_of s st a)) _ (zero_tensor g.sound b z))
 
 -- the weights and the members of S below both tops taken out
@@ -76,11 +74,6 @@ module _ {c s : List ℕ} {st : State} {a b : Edge} (g : OperationRequires c s s
 power_nonzero : (n : ℕ) → Nonzero (power2 n)
 power_nonzero zero = unfold power2 in one_nonzero
 power_nonzero (suc n) = rw (← two_power n) (times_nonzero (power_nonzero n) two_nonzero)
-
-no_bits : (n : ℕ) → bits 0 n ≡ false
-unfolding bits
-no_bits zero = refl
-no_bits (suc n) = no_bits n
 
 module _ {c s : List ℕ} {st : State} {a b : Edge} {m k v rest : ℕ} (g : OperationRequires c s st a b) (l : m < masks)
     (na : a.weight ≢ 0) (nb : b.weight ≢ 0)
@@ -137,7 +130,7 @@ module _ {c s : List ℕ} {st : State} {a b : Edge} {m k v rest : ℕ} (g : Oper
       (Ok (record { weight = v; node = a.node }))
   constant_right y z =
       one_left a.node g.left.within
-      (rw (y, z, at_zero (set_of s st)) (cont_constant 1w one_nonzero (bits 0) no_bits (set_of s st) _
+      (rw (y, z, at_zero (set_of s st)) (cont_constant 1w one_nonzero (bits 0) bits_none (set_of s st) _
       (covers a.node g.left.within)))
 
   pub constant_left : a.node ≡ 0 → rest ≡ 0
@@ -146,7 +139,7 @@ module _ {c s : List ℕ} {st : State} {a b : Edge} {m k v rest : ℕ} (g : Oper
   constant_left y z =
       one_left b.node g.right.within
       (rw (y, z, at_zero (set_of s st), cont_comm (constant indices 1w))
-      (cont_constant 1w one_nonzero (bits 0) no_bits (set_of s st) _ (covers b.node g.right.within)))
+      (cont_constant 1w one_nonzero (bits 0) bits_none (set_of s st) _ (covers b.node g.right.within)))
 
   -- two constants have no index left, so what comes here has a node
   both_constant : a.node ≡ 0 → b.node ≡ 0 → rest ≡ 0

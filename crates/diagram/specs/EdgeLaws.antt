@@ -15,7 +15,7 @@ use Rattle.diagram.specs.SumOverLaws.{plus_scale}
 use Rattle.diagram.specs.TensorScaleLaws.{normal_same, multiple_scale}
 use Rattle.diagram.specs.Tally.{Set}
 use Rattle.diagram.specs.Node.{node_at}
-use Rattle.diagram.specs.Meaning.{tensor_at, edge_in, tensors, node_in, level, Valid, node_tensor}
+use Rattle.diagram.specs.Meaning.{tensor_at, edge_in, tensors, node_in, level, Valid, nought, node_tensor}
 use Rattle.diagram.specs.MeaningLaws.{level_constant, valid_more}
 use Rattle.diagram.specs.Canonical.{Canonical, NormalNode}
 use Rattle.diagram.specs.CanonicalLaws.{node_first, edge_free_below, edge_level, normal_node_low}
@@ -49,7 +49,7 @@ unfolding edge_in
 multiple_tensor ts t = rw (t.weight, t.node) (sym (scale_scale _ _ _))
 
 pub edge_sum_none : {a b : Edge} {p : ℕ} → Represents p (plus_w (to_weight a.weight) (to_weight b.weight)) → p ≡ 0
-    → IsSum a b (record { weight = 0; node = 0 })
+    → IsSum a b nought
 edge_sum_none s z =
     record { small = omega arith; weight = ap to_weight (sym z) ∙ s.is; none = λ _. refl; node = λ n. absurd (n refl) }
 

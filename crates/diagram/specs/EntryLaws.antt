@@ -7,6 +7,7 @@ use Rattle.std.proofs.lemmas.Bool.{eqb-false}
 use Rattle.field.specs.Weight.{Weight, to_weight, 0w}
 use Rattle.field.specs.Field.{Represents}
 use Rattle.field.specs.RingLaws.{weight_number}
+use Rattle.std.proofs.Math.Bool.{or-true}
 use Rattle.diagram.specs.Tensor.{Bits, bits, middle, fresh, assign}
 use Rattle.diagram.specs.TensorBitsLaws.{assign_other}
 use Rattle.diagram.specs.Gate.{Matrix, numbers, matrix, bit, on_qubit, shape, Rule, rule, entry_on, entry}
@@ -107,11 +108,7 @@ unused_entry g k b f e = agree_entry g (assign k b f) f (same (first_qubit g) le
 
     right : k % 3 ≢ 0 → k / 3 ≢ second_qubit g
     right n q = true≢false (sym (rw (ne_eqb (k % 3) 0 n, eq-eqb (k / 3) (second_qubit g) q)
-        (or_true (eqb (k / 3) (first_qubit g)))) ∙ e)
-      where
-        or_true : (a : Bool) → (a || true) ≡ true
-        or_true true = refl
-        or_true false = refl
+        (or-true (eqb (k / 3) (first_qubit g)))) ∙ e)
 
     same : (q : ℕ) → (k % 3 ≢ 0 → k / 3 ≢ q) → AgreeOn (assign k b f) f q
     same q n = (

@@ -3,6 +3,7 @@
 -- once, in FieldsLaws: `put_field_same`, `put_field_other` (another record) and `put_field_beside` (another field, of
 -- any record).
 use Rattle.std.specs.Prelude.{List, ℕ, ◌+◌, ◌*◌, ◌/◌, ◌%◌, ◌≤◌, ◌<◌, length, get_or, set}
+use Rattle.std.specs.Prelude.{◌≡◌, ◌≢◌}
 
 -- field f of record i, records counted from 0
 unfoldable pub field : List ℕ → ℕ → ℕ → ℕ
@@ -16,3 +17,9 @@ put_field s f i v = set (set s (16 * i + 2 * f) (v % 256)) (16 * i + 2 * f + 1) 
 pub record FieldWithin (s : List ℕ) (f i : ℕ) : Type 0 where
   pub column : f < 8
   pub row : 16 * i + 16 ≤ length s
+
+-- s' is s with field f of the first n records 0
+pub record Cleared (s s' : List ℕ) (f n : ℕ) : Type 0 where
+  pub long : length s' ≡ length s
+  pub others : (g : ℕ) → g < 8 → g ≢ f → field s' g ≡ field s g
+  pub none : (i : ℕ) → i < n → field s' f i ≡ 0

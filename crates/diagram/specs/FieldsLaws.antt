@@ -1,9 +1,17 @@
 -- Laws of fields: what a field is after a field was set.
-use Rattle.std.specs.Prelude.{◌≡◌, ◌≢◌, List, ℕ, ◌+◌, ◌*◌, ◌/◌, ◌%◌, ◌<◌, length, get_or, set}
-use Rattle.std.proofs.Common.{ap₂, ◌∙◌, arith, length-set, get_or-set_same, get_or-set_other}
+use Rattle.std.specs.Prelude.{◌≡◌, refl, ◌≢◌, List, ℕ, ◌+◌, ◌*◌, ◌/◌, ◌%◌, ◌≤◌, ◌<◌, length, get_or, set}
+use Rattle.std.proofs.Common.{ap, ap₂, ◌∙◌, arith, length-set, get_or-set_same, get_or-set_other}
+use Rattle.std.specs.Int.{to_le_bytes, w16}
 use Rattle.std.proofs.Math.Path.{fun_ext}
 use Rattle.std.proofs.Math.Decide.{ℕ_discrete}
-use Rattle.diagram.specs.Fields.{field, put_field, FieldWithin}
+use Rattle.diagram.specs.Fields.{field, put_field, FieldWithin, Cleared}
+
+-- the two bytes of a number, put one after the other
+pub put_bytes : (s : List ℕ) (f i : ℕ) {v : ℕ} {b : List ℕ} → v < 65536 → b ≡ to_le_bytes w16 v
+    → set (set s (16 * i + 2 * f) (get_or b 0 0)) (16 * i + 2 * f + 1) (get_or b 1 0) ≡ put_field s f i v
+unfolding put_field
+put_bytes s f i {v} p e =
+    rw e (ap₂ (λ a b. set (set s (16 * i + 2 * f) a) (16 * i + 2 * f + 1) b) (omega arith) (omega arith))
 
 pub put_field_length : (s : List ℕ) (f i v : ℕ) → length (put_field s f i v) ≡ length s
 unfolding put_field
@@ -42,3 +50,20 @@ put_field_beside s f i v g hf hg ne =
       | yes e ↦ apart s (16 * i + 2 * f) v (16 * j + 2 * g) (omega arith) (omega arith) (omega arith)
       | no d ↦ put_field_other s f i v g j hf hg d
     ])
+
+-- a field of records set to 0, one after the other
+
+pub cleared_none : (s : List ℕ) (f : ℕ) → Cleared s s f 0
+cleared_none s f = record { long = refl; others = λ g p d. refl; none = λ i h. absurd (omega arith) }
+
+pub cleared_more : {s s' s₁ : List ℕ} {f i n : ℕ} → f < 8 → i < n → 16 * n ≤ length s → Cleared s s' f i
+    → s₁ ≡ put_field s' f i 0 → Cleared s s₁ f (i + 1)
+cleared_more {s' = s'} {f = f} {i = i} p l h c q = rw q
+    record {
+      long = put_field_length s' f i 0 ∙ c.long;
+      others = λ g b d. put_field_beside s' f i 0 g p b d ∙ c.others g b d;
+      none = λ j b. elim (ℕ_discrete j i) [
+        | yes e ↦ ap (field _ f) e ∙ put_field_same s' f i 0 (omega (arith, c.long))
+        | no d ↦ put_field_other s' f i 0 f j p p d ∙ c.none j (omega arith)
+      ];
+    }

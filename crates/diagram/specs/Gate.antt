@@ -1,5 +1,6 @@
 -- The gates (document 01, "Gates") and `unit`, as tensors over d indices.
-use Rattle.std.specs.Prelude.{Bool, true, false, cond, ◌&&◌, List, [], ◌∷◌, map, ℕ, zero, suc, ◌<◌, get_or}
+use Rattle.std.specs.Prelude.{Bool, true, false, cond, ◌&&◌, List, [], ◌∷◌, map, ℕ, zero, suc, ◌+◌, ◌^◌, ◌<◌, get_or}
+use Rattle.std.specs.Prelude.{◌≡◌, ◌++◌, codes, decimal}
 use Rattle.std.specs.Bool.{xor, beq}
 use Rattle.field.specs.Weight.{Weight, to_weight, 0w, 1w, negate_w, imaginary_unit, inverse_root_two, plus_w, times_w}
 use Rattle.diagram.specs.Tensor.{Tensor, Bits, input, middle, fresh}
@@ -111,6 +112,16 @@ ShapeBelow d (Two a b) = (fresh a < d) × (fresh b < d)
 abbrev pub GateBelow : ℕ → Gate → Type 0
 GateBelow d g = ShapeBelow d (shape g)
 
+-- "Qubit q (0 to 7)": a gate's qubit, or its two
+abbrev pub AllBelowEight : Shape → Type 0
+AllBelowEight (One q) = q < 8
+AllBelowEight (Two a b) = (a < 8) × (b < 8)
+
+-- "the middles of its qubits", as a mask: the powers of two of these indices, added
+abbrev pub middles : Shape → ℕ
+middles (One q) = 2 ^ middle q
+middles (Two a b) = 2 ^ middle a + 2 ^ middle b
+
 -- the product of two matrices
 unfoldable pub product : Matrix → Matrix → Matrix
 product a b =
@@ -118,6 +129,37 @@ product a b =
     let y : ℕ → ℕ → Weight = λ i j. get_or (get_or b i []) j 0w in
     let z : ℕ → ℕ → Weight = λ i j. plus_w (times_w (x i 0) (y 0 j)) (times_w (x i 1) (y 1 j)) in
     rows (z 0 0) (z 0 1) (z 1 0) (z 1 1)
+
+-- The numbers belong together as the gates do. A row: two gates on a qubit, and what one times the other is.
+abbrev Row : Type 0
+Row = Matrix × Matrix × Matrix
+
+abbrev pub RelationsHold : List Row → Type 0
+RelationsHold [] = Unit {0}
+RelationsHold ((a, b, c) ∷ l) = (numbers (product a b) ≡ numbers c) × RelationsHold l
+
+abbrev identity : Matrix
+identity = rows 1w 0w 0w 1w
+
+abbrev pub relations : ℕ → List Row
+relations q =
+    let x = matrix (gate.X q) in
+    let y = matrix (gate.Y q) in
+    let z = matrix (gate.Z q) in
+    let h = matrix (gate.H q) in
+    let s = matrix (gate.S q) in
+    let t = matrix (gate.T q) in
+    (x, x, identity)
+    ∷ (y, y, identity)
+    ∷ (z, z, identity)
+    ∷ (h, h, identity)
+    ∷ (y, z, rows 0w imaginary_unit imaginary_unit 0w)
+    ∷ (h, x, product z h)
+    ∷ (s, s, z)
+    ∷ (t, t, s)
+    ∷ (s, matrix (gate.Sd q), identity)
+    ∷ (t, matrix (gate.Td q), identity)
+    ∷ []
 
 -- the gate's qubit, or its first; and its qubit again, or its second
 abbrev pub first_qubit_on : Shape → ℕ
@@ -151,6 +193,10 @@ single_numbers (gate.Cx a b) = two_by_two 0 0 0 0
 single_numbers (gate.Cz a b) = two_by_two 0 0 0 0
 single_numbers (gate.Sw a b) = two_by_two 0 0 0 0
 
+-- four numbers, as the code writes a row of a gate on two qubits
+abbrev pub row : ℕ → ℕ → ℕ → ℕ → List ℕ
+row a b c d = a ∷ b ∷ c ∷ d ∷ []
+
 -- f at the values 00, 01, 10 and 11
 abbrev pub by_bits : {A : Type 0} → (Bool → Bool → A) → List A
 by_bits f = f false false ∷ f false true ∷ f true false ∷ f true true ∷ []
@@ -172,3 +218,24 @@ gate_number (gate.Td q) = 7
 gate_number (gate.Cx a b) = 8
 gate_number (gate.Cz a b) = 9
 gate_number (gate.Sw a b) = 10
+
+-- "CX a b": a name, and the qubits that it is on
+abbrev on_one : List ℕ → ℕ → List ℕ
+on_one name q = name ++ codes " " ++ decimal q
+
+abbrev on_two : List ℕ → ℕ → ℕ → List ℕ
+on_two name a b = name ++ codes " " ++ decimal a ++ codes " " ++ decimal b
+
+-- a gate as a session's line names it
+abbrev pub printed : Gate → List ℕ
+printed (gate.X q) = on_one (codes "X") q
+printed (gate.Y q) = on_one (codes "Y") q
+printed (gate.Z q) = on_one (codes "Z") q
+printed (gate.H q) = on_one (codes "H") q
+printed (gate.S q) = on_one (codes "S") q
+printed (gate.Sd q) = on_one (codes "SD") q
+printed (gate.T q) = on_one (codes "T") q
+printed (gate.Td q) = on_one (codes "TD") q
+printed (gate.Cx a b) = on_two (codes "CX") a b
+printed (gate.Cz a b) = on_two (codes "CZ") a b
+printed (gate.Sw a b) = on_two (codes "SW") a b

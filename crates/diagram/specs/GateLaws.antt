@@ -4,13 +4,14 @@ use Rattle.std.specs.Prelude.{◌≡◌, ◌&&◌, List, [], ◌∷◌, ℕ, zer
 use Rattle.std.proofs.Math.Path.{refl}
 use Rattle.std.proofs.Common.{ap₂, ap, sym, ◌∙◌, arith}
 use Rattle.std.proofs.Math.Bool.{xor}
+use Rattle.std.proofs.Math.Pow.{pow-lt}
 use Rattle.field.specs.Weight.{to_weight, 0w, 1w, plus_w, times_w, negate_w, imaginary_unit, inverse_root_two}
 use Rattle.diagram.specs.Tensor.{Bits, input, middle, fresh, bits, at, value}
 use Rattle.diagram.specs.Tabulate.{Sees}
 use Rattle.diagram.specs.TabulateLaws.{at_tabulate, tabulate_value}
-use Rattle.diagram.specs.Gate.{Matrix, rows, numbers, matrix, on_qubit, shape, rule, entry_on, entry, gate_tensor}
+use Rattle.diagram.specs.Gate.{numbers, matrix, on_qubit, shape, rule, entry_on, entry, gate_tensor}
 use Rattle.diagram.specs.Gate.{equal, straight, unit_entry, unit_tensor, product, GateBelow, ShapeBelow}
-use Rattle.diagram.specs.Gate.{single_numbers, rule_table}
+use Rattle.diagram.specs.Gate.{single_numbers, rule_table, RelationsHold, relations, row}
 use Rattle.diagram.specs.declared.gate.Gate.{Gate}
 use Rattle.diagram.specs.declared.gate.Gate.TheVariants as gate
 use Rattle.diagram.specs.declared.gate.Shape.{Shape}
@@ -55,37 +56,7 @@ pub unit_at : (d n : ℕ) → 3 * n ≤ d → (f : Bits) → at (unit_tensor d n
 unfolding unit_tensor
 unit_at d n p f = at_tabulate d (unit_entry n) (unit_sees d n p) f
 
--- The numbers belong together as the gates do. A row: two gates on a qubit, and what one times the other is.
-abbrev Row : Type 0
-Row = Matrix × Matrix × Matrix
-
-abbrev RelationsHold : List Row → Type 0
-RelationsHold [] = Unit {0}
-RelationsHold ((a, b, c) ∷ l) = (numbers (product a b) ≡ numbers c) × RelationsHold l
-
-abbrev one : Matrix
-one = rows 1w 0w 0w 1w
-
-abbrev relations : ℕ → List Row
-relations q =
-    let x = matrix (gate.X q) in
-    let y = matrix (gate.Y q) in
-    let z = matrix (gate.Z q) in
-    let h = matrix (gate.H q) in
-    let s = matrix (gate.S q) in
-    let t = matrix (gate.T q) in
-    (x, x, one)
-    ∷ (y, y, one)
-    ∷ (z, z, one)
-    ∷ (h, h, one)
-    ∷ (y, z, rows 0w imaginary_unit imaginary_unit 0w)
-    ∷ (h, x, product z h)
-    ∷ (s, s, z)
-    ∷ (t, t, s)
-    ∷ (s, matrix (gate.Sd q), one)
-    ∷ (t, matrix (gate.Td q), one)
-    ∷ []
-
+-- the numbers belong together as the gates do
 pub gates_agree : (q : ℕ) → RelationsHold (relations q)
 unfolding product numbers matrix plus_w times_w negate_w to_weight 0w 1w imaginary_unit inverse_root_two
 gates_agree q = (refl, (refl, (refl, (refl, (refl, (refl, (refl, (refl, (refl, (refl, tt))))))))))
@@ -112,9 +83,6 @@ single_is (gate.Sw a b) = refl
 pub as_matrix : {g h : Gate} {m : List (List ℕ)} → g ≡ h → m ≡ single_numbers h → m ≡ numbers (matrix g)
 as_matrix {g} {h} p e = e ∙ single_is h ∙ ap (λ x. numbers (matrix x)) (sym p)
 
-abbrev row : ℕ → ℕ → ℕ → ℕ → List ℕ
-row a b c d = a ∷ b ∷ c ∷ d ∷ []
-
 module _ (a b : ℕ) where
   pub cx_table : row 1 0 0 0 ∷ row 0 1 0 0 ∷ row 0 0 0 1 ∷ row 0 0 1 0 ∷ [] ≡ rule_table (rule (gate.Cx a b))
   unfolding rule_table xor to_weight 0w 1w
@@ -127,3 +95,7 @@ module _ (a b : ℕ) where
   pub sw_table : row 1 0 0 0 ∷ row 0 0 1 0 ∷ row 0 1 0 0 ∷ row 0 0 0 1 ∷ [] ≡ rule_table (rule (gate.Sw a b))
   unfolding rule_table to_weight 0w 1w
   sw_table = refl
+
+-- the middle index of one of the eight qubits, as a mask
+pub middle_below : (q : ℕ) → q < 8 → {r : ℕ} → r ≡ 2 ^ middle q → r < 8388608
+middle_below q p e = rw e (pow-lt {i = middle q} {j = 23} (omega arith))

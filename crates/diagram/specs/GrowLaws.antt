@@ -6,13 +6,14 @@ use Rattle.std.proofs.Math.Bool.{true, false, ◌&&◌, not}
 use Prim.Native.Nat.{ℕ, zero, suc, ◌*◌, ◌≤◌, ◌<◌}
 use Rattle.std.proofs.Math.Nat.{pow-le-pow_right}
 use Rattle.field.specs.Weight.{Weight, same_w, inverse_w}
+use Rattle.std.proofs.Math.Bool.{and_self}
 use Rattle.diagram.specs.Tensor.{indices, indices_count, Tensor, weight, split, branch, Bits, tail, bits, at}
 use Rattle.diagram.specs.Tensor.{value, same, constant, is_zero, scale, plus, times, first, top, lower_top}
 use Rattle.diagram.specs.Tensor.{top2, fix}
 use Rattle.diagram.specs.Tensor.{depends, joined, normal, multiple}
 use Rattle.diagram.specs.TensorLaws.{at_constant, same_eq, eq_same, scale_constant, fix_constant, first_constant}
 use Rattle.diagram.specs.TensorLaws.{zero_constant}
-use Rattle.diagram.specs.TestLaws.{branch_ap, and_same}
+use Rattle.diagram.specs.TestLaws.{branch_ap}
 use Rattle.diagram.specs.TensorRingLaws.{plus_constant, times_constant}
 use Rattle.diagram.specs.TopLaws.{top_constant}
 use Rattle.diagram.specs.Tabulate.{cons, tabulate, Sees}
@@ -31,7 +32,7 @@ indices_deeper = indices_count
 same_constant : (d : ℕ) (v w : Weight) → same (constant d v) (constant d w) ≡ same_w v w
 unfolding same constant
 same_constant zero v w = refl
-same_constant (suc d) v w = rw (same_constant d v w) (and_same (same_w v w))
+same_constant (suc d) v w = rw (same_constant d v w) (and_self (same_w v w))
 
 module _ (m : ℕ) where
   pub grow_same : {d : ℕ} (A B : Tensor d) → same (grow m A) (grow m B) ≡ same A B

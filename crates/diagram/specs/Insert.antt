@@ -1,7 +1,7 @@
--- What linking a node into its chain, appending a node and clearing the heads do to the unique table.
+-- What linking a node into its chain, appending a node and making the table anew do to the unique table.
 use Rattle.std.specs.Prelude.{◌≡◌, List, [], ◌∷◌, ◌++◌, ℕ, ◌+◌, ◌*◌, ◌≤◌, ◌<◌, ◌-◌, length}
 use Rattle.diagram.specs.Fields.{put_field}
-use Rattle.diagram.specs.Node.{node_at, head_at, nodes_up_to}
+use Rattle.diagram.specs.Node.{node_at, head_at, nodes_up_to, HoldsNodes}
 use Rattle.diagram.specs.Table.{hash_of, TableSound}
 use Rattle.diagram.specs.declared.node.Node.{Node}
 
@@ -38,5 +38,5 @@ pub record RebuildEnsures (s s' : List ℕ) (m k : ℕ) : Type 0 where
 pub record RebuildLoop (s s' : List ℕ) (m n k : ℕ) : Type 0 where
   pub rebuilt : RebuildEnsures s s' m k
   pub within : m ≤ n
-  pub room : 16 * n ≤ length s
+  pub room : HoldsNodes s n
   pub numbered : n < 65536

@@ -3,11 +3,11 @@ use Rattle.std.specs.Prelude.{◌≡◌, refl, ◌≢◌, List, [], ◌∷◌, �
 use Rattle.std.proofs.Common.{ap, sym, ◌∙◌, add-one, arith}
 use Rattle.std.proofs.Math.Decide.{ℕ_discrete}
 use Rattle.diagram.specs.TableLaws.{last_ext, last_none, last_new, last_old, hash_lt}
-use Rattle.diagram.specs.Fields.{field, put_field}
+use Rattle.diagram.specs.Fields.{field, put_field, Cleared}
 use Rattle.diagram.specs.FieldsLaws.{put_field_length, put_field_same, put_field_other, put_field_beside}
 use Rattle.diagram.specs.Node.{NodeFits, RecordWithin, node_at, head_at, next_at, put_node}
 use Rattle.diagram.specs.NodeLaws.{there, put_node_lem, put_node_length, put_node_beside, put_node_other, put_node_same}
-use Rattle.diagram.specs.NodeLaws.{listed_more, listed_ext}
+use Rattle.diagram.specs.NodeLaws.{cleared_nodes, listed_more, listed_ext}
 use Rattle.diagram.specs.Table.{hash, hash_of, TableSound, last}
 use Rattle.diagram.specs.Insert.{RebuildLoop, ClearEnsures, link_node, TableFits, RebuildEnsures, AppendEnsures}
 use Rattle.diagram.specs.declared.node.Node.{Node}
@@ -126,24 +126,8 @@ module _ {k m : ℕ} {s s₁ s₂ : List ℕ} {x : Node} (t : TableSound s m k) 
         here = rw (add-one m, link_node_at k (suc m) put_in) (put_node_same s (suc m) x w h);
       }
 
-pub clear_none : (s : List ℕ) → ClearEnsures s s 0
-clear_none s = record { long = refl; kept = refl; none = λ b h. absurd (omega arith) }
-
-pub clear_more : {s s' s₁ : List ℕ} {i k : ℕ} → i < k → 16 * k ≤ length s → ClearEnsures s s' i
-    → s₁ ≡ put_field s' 4 i 0
-    → ClearEnsures s s₁ (i + 1)
-clear_more {s} {s'} {i = i} l h c q = rw q
-    record {
-      long = put_field_length s' 4 i 0 ∙ c.long;
-      kept = put_node_lem s' 4 i 0 (omega arith) (omega arith) ∙ c.kept;
-      none = λ b p. elim (ℕ_discrete b i) [
-        | yes e ↦ ap (head_at _) e ∙ put_field_same s' 4 i 0 (omega (arith, c.long))
-        | no d ↦ put_field_other s' 4 i 0 4 b (omega arith) (omega arith) d ∙ c.none b (omega arith)
-      ];
-    }
-
-pub clear_all : {s s' : List ℕ} {i k : ℕ} → k ≤ i → ClearEnsures s s' i → ClearEnsures s s' k
-clear_all p c = record { long = c.long; kept = c.kept; none = λ b q. c.none b (omega arith) }
+pub cleared_heads : {s s' : List ℕ} {k : ℕ} → Cleared s s' 4 k → ClearEnsures s s' k
+cleared_heads c = record { long = c.long; kept = cleared_nodes 4 (omega arith) (omega arith) c; none = c.none }
 
 pub rebuild_same : {s : List ℕ} {m k : ℕ} → TableSound s m k → RebuildEnsures s s m k
 rebuild_same t = record { long = refl; indexed = t; kept = refl }

@@ -2,13 +2,15 @@
 use Rattle.std.specs.Prelude.{◌≡◌, ◌≢◌, ◌⊎◌, true, false, cond, Bool, List, [], ◌∷◌, ◌++◌, length}
 use Rattle.std.proofs.Math.Path.{refl, ap, subst}
 use Rattle.std.proofs.Common.{ap₂, sym, ◌∙◌, inl, inr, arith, length-append}
-use Rattle.std.proofs.Math.Option.{some}
 use Prim.Native.Nat.{ℕ, zero, suc, ◌^◌, ◌≤◌, ◌<◌}
 use Rattle.std.specs.Int.Bits.{bit_or}
 use Rattle.std.proofs.lemmas.Nat.{or_lt}
 use Rattle.field.specs.Weight.{modulus, to_weight, 1w, times_w, inverse_w, Nonzero}
 use Rattle.field.specs.RingLaws.{weight_injective, nonzero_weight, weight_one}
 use Rattle.std.proofs.lemmas.Bool.{false≢true}
+use Rattle.std.proofs.Math.Option.{some-injective}
+use Rattle.std.proofs.Math.Pow.{pow-lt}
+use Rattle.diagram.specs.Node.{same_edge}
 use Rattle.diagram.specs.Tensor.{same, is_zero, scale, first, top, fix, joined, normal, indices, indices_count}
 use Rattle.diagram.specs.Tensor.{index_count, masks}
 use Rattle.diagram.specs.TensorLaws.{scale_scale, scale_one, joined_scale, same_eq, eq_same}
@@ -18,7 +20,7 @@ use Rattle.diagram.specs.TensorScaleLaws.{same_scale, unscale, normal_scale, nor
 use Rattle.diagram.specs.TopFreeLaws.{free_below_scale, first_joined}
 use Rattle.diagram.specs.Tally.{Set, member, join, Step}
 use Rattle.diagram.specs.TallyCasesLaws.{join_present, join_new, join_same}
-use Rattle.diagram.specs.NodeLaws.{node_eq, edge_eq, same_edge, edge_told}
+use Rattle.diagram.specs.NodeLaws.{node_eq, edge_eq, edge_told}
 use Rattle.diagram.specs.Meaning.{tensor_at, edge_in, node_tensor, tensors, node_in, Valid}
 use Rattle.diagram.specs.MeaningLaws.{valid_more, at_new, at_zero, tensors_more, tensors_length, member_node}
 use Rattle.diagram.specs.MeaningLaws.{member_none}
@@ -37,7 +39,6 @@ use Rattle.diagram.specs.StoreLaws.{nodes_length, node_at_lem, refines_stays}
 use Rattle.diagram.specs.Join.{JoinRequires, NodeMaskEnsures}
 use Rattle.diagram.specs.Support.{support_mask}
 use Rattle.diagram.specs.SupportLaws.{support_joined, support_scale}
-use Rattle.diagram.specs.MaskBitsLaws.{power_less}
 use Rattle.diagram.specs.TestLaws.{cases, no_some}
 use Rattle.diagram.specs.declared.node.Node.{Node}
 use Rattle.diagram.specs.declared.node.Edge.{Edge}
@@ -55,16 +56,13 @@ module _ (d : ℕ) (xs : List Node) (c : Canonical d xs) where
   pub normal_node_unique : {m n : ℕ} (x y : Node) → m ≤ length xs → n ≤ length xs → NormalNode ts m x
       → NormalNode ts n y → node_tensor ts x ≡ node_tensor ts y → x ≡ y
   normal_node_unique x y p q h g e =
-      let i : x.index ≡ y.index = some_same (sym (normal_node_top h) ∙ ap top e ∙ normal_node_top g) in
+      let i : x.index ≡ y.index = some-injective _ _ (sym (normal_node_top h) ∙ ap top e ∙ normal_node_top g) in
       node_eq i
       (canonical_edge_unique d xs c (valid_more _ p h.low) (valid_more _ q g.low)
       (sym (normal_node_low h) ∙ ap₂ (λ k T. fix k false T) i e ∙ normal_node_low g))
       (canonical_edge_unique d xs c (valid_more _ p h.high) (valid_more _ q g.high)
       (sym (normal_node_high h) ∙ ap₂ (λ k T. fix k true T) i e ∙ normal_node_high g))
       (h.mask ∙ ap support_mask e ∙ sym g.mask)
-    where
-      some_same : {m n : ℕ} → some m ≡ some n → m ≡ n
-      some_same e = cc
 
   -- a node in normal form that is none of the nodes has a tensor that none of them has
   normal_node_new : (x : Node) → NormalNode ts (length xs) x → Missing x → (n : ℕ) → n ≤ length xs
@@ -200,7 +198,7 @@ pub node_mask_ensures : {s : List ℕ} {st : State} {k : ℕ} {l h : Edge} {own 
 node_mask_ensures {k = k} {low = low} {high} p o m n =
     record {
       is = rw (o, m.0, n.0);
-      small = rw o (or_lt 24 _ _ (power_less k 24 p) (or_lt 24 low high m.1 n.1));
+      small = rw o (or_lt 24 _ _ (pow-lt {i = k} {j = 24} p) (or_lt 24 low high m.1 n.1));
     }
 
 module _ {s : List ℕ} {st : State} {k : ℕ} {l h : Edge} (held : Sound s st) (j : JoinRequires s st k l h) (b : Bool)

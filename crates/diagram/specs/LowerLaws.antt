@@ -7,13 +7,13 @@ use Rattle.std.specs.Int.Bits.{bit_and, and_zero_r}
 use Rattle.std.proofs.lemmas.Bool.{eqb-false}
 use Rattle.field.specs.Weight.{to_weight, Nonzero}
 use Rattle.field.specs.RingLaws.{nonzero_weight, weight_one}
+use Rattle.std.proofs.Math.Pow.{pow-lt}
 use Rattle.diagram.specs.Tensor.{Tensor, bits, top, fix, indices, indices_count, index_count, masks}
 use Rattle.diagram.specs.TensorLaws.{scale_one}
 use Rattle.diagram.specs.TestLaws.{cases}
 use Rattle.diagram.specs.Tally.{both, join, low}
 use Rattle.diagram.specs.TallyStepLaws.{writes_answer, writes_grows}
 use Rattle.diagram.specs.TallyStep.{Writes, ScaledStep}
-use Rattle.diagram.specs.MaskBitsLaws.{power_less}
 use Rattle.diagram.specs.Support.{support_mask}
 use Rattle.diagram.specs.SupportStoreLaws.{support_leaf, masks_power}
 use Rattle.diagram.specs.Lows.{lower_in, lows, clash}
@@ -47,7 +47,7 @@ module _ {c s : List ℕ} {st : State} {a : Edge} {k m : ℕ} (g : OperationRequ
 
   pub lower_as_set : LowsRequires s st a m
   lower_as_set = record {
-    small = rw (e, ← masks_power) (power_less k indices below);
+    small = rw (e, ← masks_power) (pow-lt below);
     zero = rw e (one_zero k x.first below);
     no_clash = rw e (one_no_clash k x.first below _ x.free);
   }

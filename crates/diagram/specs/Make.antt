@@ -1,13 +1,13 @@
 -- Making a node: the number that it has, or one more node, or no room.
-use Rattle.std.specs.Prelude.{◌≡◌, List, [], ◌∷◌, ◌++◌, ℕ, ◌+◌, ◌*◌, ◌≤◌, ◌<◌, length}
-use Rattle.diagram.specs.Node.{capacity, node_at, listed}
+use Rattle.std.specs.Prelude.{◌≡◌, List, [], ◌∷◌, ◌++◌, ℕ, ◌+◌, ◌≤◌, ◌<◌, length}
+use Rattle.diagram.specs.Node.{capacity, HoldsNodes, node_at, listed}
 use Rattle.diagram.specs.Table.{TableSound, Absent}
 use Rattle.diagram.specs.declared.node.Node.{Node}
 use Rattle.diagram.specs.declared.make.State.{State}
 
 -- the store has room for as many nodes as the state says, and holds their unique table where it holds a record at all
 pub record StateSound (s : List ℕ) (st : State) : Type 0 where
-  pub room : 16 * st.count ≤ length s
+  pub room : HoldsNodes s st.count
   pub numbered : st.count < 65536
   pub table : 16 ≤ length s → TableSound s st.count st.buckets
 

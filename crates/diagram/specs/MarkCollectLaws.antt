@@ -13,6 +13,8 @@ use Rattle.std.proofs.Math.Decide.{ℕ_discrete}
 use Rattle.std.proofs.Math.ListN.{get_or}
 use Rattle.field.specs.Weight.{to_weight, 0w, 1w}
 use Rattle.field.specs.RingLaws.{nonzero_weight}
+use Rattle.std.proofs.Math.Nat.{pos_of_ne-zero}
+use Rattle.std.proofs.Math.Option.{some-injective}
 use Rattle.diagram.specs.Tensor.{Tensor, same, top, fix, normal, scale, constant}
 use Rattle.diagram.specs.TensorLaws.{same_eq, same_refl}
 use Rattle.diagram.specs.TopLaws.{top_constant}
@@ -68,12 +70,6 @@ member_next x y s e = go (same x y)
     go : (b : Bool) → (b || member x s) ≡ true
     go true = refl
     go false = e
-
-positive : (n : ℕ) → n ≢ 0 → 1 ≤ n
-positive n z = omega (arith, z)
-
-some_injective : {j k : ℕ} → some j ≡ some k → j ≡ k
-some_injective e = cc
 
 edge_scaled : {d : ℕ} (ts : Set d) (e : Edge) (x : Tensor d) → Reachable x (edge_in ts e)
     → Reachable x (scale (to_weight e.weight) (tensor_at ts e.node))
@@ -184,14 +180,14 @@ module _ (d : ℕ) (f : ℕ → Node) (count : ℕ) (a : ℕ → ℕ) (canonical
     reach_step r ih p q live (itself k e x) =
         let same : n ≡ r = canonical.unique n r (inside n i) (inside r q) (x ∙ is_normal r q) in
         λ z. live (ap a (sym same) ∙ z)
-    reach_step r ih p q live (part k e b h) = go b (rw (some_injective (sym e ∙ has_top r p q)) at h)
+    reach_step r ih p q live (part k e b h) = go b (rw (some-injective _ _ (sym e ∙ has_top r p q)) at h)
       where
         child : (e : Edge) → Valid (r - 1) e → (e.node ≢ 0 → (e.node < r) × (a e.node ≢ 0))
             → Reachable (tensor_at ts n) (edge_in ts e) → a n ≢ 0
         child e v c h =
             let down = edge_reaches (r - 1) e (tensor_at ts n) v h in
             let near = c down.0 in
-            ih e.node near.0 (let z = down.0 in positive e.node z)
+            ih e.node near.0 (let z = down.0 in pos_of_ne-zero z)
             (let l : e.node < r = near.0 in omega arith) near.1 down.1
 
         go : (b : Bool) → Reachable (tensor_at ts n) (fix (f r).index b (tensor_at ts r)) → a n ≢ 0
@@ -214,7 +210,7 @@ module _ (d : ℕ) (f : ℕ → Node) (count : ℕ) (a : ℕ → ℕ) (canonical
       → Reachable (tensor_at ts e.node) (tensor_at ts n)
   reach_child n p q b e v s z =
       part (f n).index (has_top n p q) b
-      (rw s (reaches_edge (n - 1) e _ v z (reach_self e.node (positive _ z)
+      (rw s (reaches_edge (n - 1) e _ v z (reach_self e.node (pos_of_ne-zero z)
       (let w : e.node ≤ n - 1 = v.within in omega arith))))
 
   reach_low : (n : ℕ) → 1 ≤ n → n ≤ count → (f n).low.node ≢ 0
@@ -235,7 +231,7 @@ module _ (d : ℕ) (f : ℕ → Node) (count : ℕ) (a : ℕ → ℕ) (canonical
           → (member T (tensors_of ts es) ≡ true → Reachable (tensor_at ts n) T → a n ≢ 0) → a n ≢ 0
       go true s i ih =
           let down = edge_reaches count e (tensor_at ts n) v.0 (rw (same_eq T (edge_in ts e) s) at r) in
-          reach_marked n p e.node (positive e.node down.0) v.0.within (m.0 down.0) down.1
+          reach_marked n p e.node (pos_of_ne-zero down.0) v.0.within (m.0 down.0) down.1
       go false s i ih = ih i r
 
   -- the edges of the filled registers
@@ -291,7 +287,7 @@ module _ (d : ℕ) (f : ℕ → Node) (count : ℕ) (a : ℕ → ℕ) (canonical
     kept_root e i v n =
         kept_mark_lem e.node
         (reachable_keeps filled (tensor_at ts e.node) (edge_in ts e) i
-        (reaches_edge count e (tensor_at ts e.node) v n (reach_self e.node (positive e.node n) v.within)))
+        (reaches_edge count e (tensor_at ts e.node) v n (reach_self e.node (pos_of_ne-zero n) v.within)))
 
     -- the registers' own nodes are reached
     pub kept_roots : AllMarked kept_mark es

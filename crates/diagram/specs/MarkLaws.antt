@@ -3,10 +3,10 @@ use Rattle.std.specs.Prelude.{◌≡◌, refl, ◌≢◌, List, [], ◌∷◌, �
 use Rattle.std.specs.Prelude.{get_or, take, Some, None}
 use Rattle.std.proofs.Common.{ap, sym, subst, ◌∙◌, append-nil, arith, add-one, take-suc, take_all}
 use Rattle.std.proofs.Math.Decide.{ℕ_discrete}
-use Rattle.diagram.specs.Fields.{field, put_field}
+use Rattle.diagram.specs.Fields.{field, put_field, Cleared}
 use Rattle.diagram.specs.FieldsLaws.{put_field_length, put_field_same, put_field_other}
 use Rattle.diagram.specs.Node.{node_at}
-use Rattle.diagram.specs.NodeLaws.{put_node_lem}
+use Rattle.diagram.specs.NodeLaws.{put_node_lem, cleared_nodes}
 use Rattle.diagram.specs.Compact.{ChildrenWithin}
 use Rattle.diagram.specs.Mark.{ChildrenBefore, SpreadEnsures, Marked, SpreadLoop, MarkEnsures}
 use Rattle.diagram.specs.Mark.{MarkChildrenEnsures}
@@ -124,18 +124,9 @@ pub children_within : {f : ℕ → Node} {count : ℕ} {s : List ℕ} {n : ℕ} 
 children_within {f} {count} {s} {n} down e p q h =
     record { low_within = rw e (omega (arith, down.low n p q)); high_within = rw e (omega (arith, down.high n p q)) }
 
-pub unmark_start : (s : List ℕ) → NoneMarked s s 0
-unmark_start s = record { kept = refl; none = λ n p q. absurd (omega arith) }
-
-pub unmark_on : {s₀ s : List ℕ} {m : ℕ} → 16 * (m + 1) ≤ length s → NoneMarked s₀ s m
-    → NoneMarked s₀ (put_field s 5 m 0) (m + 1)
-unmark_on {s₀} {s} {m} h u = record {
-  kept = put_node_lem s 5 m 0 (omega arith) (omega arith) ∙ u.kept;
-  none = λ n p q. elim (ℕ_discrete (n - 1) m) [
-    | yes e ↦ ap (field (put_field s 5 m 0) 5) e ∙ put_field_same s 5 m 0 (omega arith)
-    | no d ↦ put_field_other s 5 m 0 5 (n - 1) (omega arith) (omega arith) d ∙ u.none n p (omega arith)
-  ];
-}
+pub cleared_marks : {s₀ s : List ℕ} {m : ℕ} → Cleared s₀ s 5 m → NoneMarked s₀ s m
+cleared_marks c =
+    record { kept = cleared_nodes 5 (omega arith) (omega arith) c; none = λ n p q. c.none (n - 1) (omega arith) }
 
 pub exactly_none : {count : ℕ} {s₀ s : List ℕ} → NoneMarked s₀ s count → ExactlyMarked count [] s₀ s
 exactly_none u = record { kept = u.kept; all = tt; only = λ b h n p q m. absurd (m (u.none n p q)) }

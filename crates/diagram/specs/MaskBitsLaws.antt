@@ -5,17 +5,14 @@ use Rattle.std.proofs.Common.{ap, sym, ◌∙◌, arith, eq-eqb, eqb-true}
 use Rattle.std.proofs.Math.Nat.{pow-le-pow_right}
 use Rattle.std.specs.Int.Bits.{bit_or, bit_and, or_step, and_step}
 use Rattle.std.proofs.lemmas.Bool.{eqb-false}
+use Rattle.std.proofs.lemmas.Nat.{pow_pos}
 use Rattle.diagram.specs.Tensor.{bits}
 use Rattle.diagram.specs.TestLaws.{cases}
 use Rattle.diagram.specs.TensorLaws.{power_suc}
 use Rattle.diagram.specs.TensorBitsLaws.{assign_at, assign_other}
-use Rattle.diagram.specs.MaskLaws.{bit_le, power_pos}
+use Rattle.diagram.specs.MaskLaws.{bit_le}
 use Rattle.diagram.specs.TabulateLaws.{bits_none}
 use Rattle.diagram.specs.BuildFixBelowLaws.{high_bits}
-
-pub power_less : (k d : ℕ) → k < d → 2 ^ k < 2 ^ d
-power_less k d p =
-    omega (arith, pow-le-pow_right {n = 2} (omega arith) {i = suc k} {j = d} p, power_suc k, power_pos k)
 
 -- a number below 2 ^ d has no bit from d on
 pub bits_above : (d v k : ℕ) → v < 2 ^ d → d ≤ k → bits v k ≡ false
@@ -82,7 +79,7 @@ bits_and a b (suc k) =
 pub power_bits : (k j : ℕ) → bits (2 ^ k) j ≡ eqb j k
 power_bits k j =
     let e : 0 + 2 ^ k ≡ 2 ^ k = omega arith in
-    ap (λ x. bits x j) (sym e) ∙ ap (λ f. f j) (high_bits k 0 (power_pos k))
+    ap (λ x. bits x j) (sym e) ∙ ap (λ f. f j) (high_bits k 0 (pow_pos k))
     ∙ cases (eqb j k)
     (λ q. let i = eqb-true j k q in rw i (assign_at k true (bits 0) ∙ sym (eq-eqb k k refl)))
     (λ q. assign_other j k true (bits 0) (eqb-false j k q) ∙ bits_none j ∙ sym q)

@@ -2,11 +2,11 @@
 use Rattle.std.specs.Prelude.{◌≡◌, refl, Bool, true, cond, eqb}
 use Rattle.std.proofs.Math.Path.{ap, fun_ext}
 use Rattle.std.proofs.Common.{ap₂, sym, subst, ◌∙◌, arith, add-one, one-add, one-mul, mod-lt, mod-eq_of_lt}
-use Rattle.std.proofs.Common.{div-add-mod', lit<, shl_exact}
+use Rattle.std.proofs.Common.{lit<, shl_exact}
 use Rattle.std.proofs.Math.Bool.{false}
 use Prim.Native.Nat.{ℕ, zero, suc, ◌+◌, ◌-◌, ◌*◌, ◌/◌, ◌%◌, ◌^◌, ◌≤◌, ◌<◌}
-use Rattle.std.proofs.Math.Nat.{pow-succ', div-div-eq-div-mul, zero-mul}
-use Rattle.std.proofs.lemmas.Nat.{mod-pow-add, ones_cat}
+use Rattle.std.proofs.Math.Nat.{mod-le, pow-succ', div-div-eq-div-mul, zero-mul}
+use Rattle.std.proofs.lemmas.Nat.{mod-pow-add, ones_cat, pow_pos}
 use Rattle.std.specs.Int.Count.{ones, ones_in}
 use borrow.Author.Tests.{eqb-true, eqb-false, ne_eqb}
 use Rattle.field.specs.Weight.{to_weight, plus_w}
@@ -52,10 +52,6 @@ bits_absent k m e = sym (assign_same k (bits m) false e)
 mod_step : (k m : ℕ) → m % 2 ^ suc k ≡ (m / 2 ^ k % 2) * 2 ^ k + m % 2 ^ k
 mod_step k m = ap (λ x. m % 2 ^ x) (sym (one-add k)) ∙ mod-pow-add m 1 k
 
-pub power_pos : (k : ℕ) → 0 < 2 ^ k
-power_pos zero = omega arith
-power_pos (suc k) = omega (arith, power_pos k, pow-succ' 2 k)
-
 digit : (x : ℕ) → x < 2 → ones x ≡ x
 unfolding ones ones_in
 digit zero p = refl
@@ -65,7 +61,7 @@ digit (suc (suc x)) p = absurd (omega arith)
 pub ones_below : (k m : ℕ) → ones (m % 2 ^ k) ≡ members k (bits m)
 ones_below zero m = let e : m % 2 ^ 0 ≡ 0 = omega arith in rw e (unfold members ones ones_in in refl)
 ones_below (suc k) m =
-    ap ones (mod_step k m) ∙ ones_cat k (m / 2 ^ k % 2) (m % 2 ^ k) (mod-lt m (power_pos k))
+    ap ones (mod_step k m) ∙ ones_cat k (m / 2 ^ k % 2) (m % 2 ^ k) (mod-lt m (pow_pos k))
     ∙ ap₂ ◌+◌ (digit (m / 2 ^ k % 2) (omega arith)) (ones_below k m)
     ∙ go (eqb (m / 2 ^ k % 2) 1) refl (members k (bits m))
     ∙ sym (members_more k (bits m) ∙ ap (λ b. cond b (suc (members k (bits m))) (members k (bits m))) (bits_at k m))
@@ -73,9 +69,6 @@ ones_below (suc k) m =
     go : (b : Bool) → eqb (m / 2 ^ k % 2) 1 ≡ b → (n : ℕ) → m / 2 ^ k % 2 + n ≡ cond (eqb (m / 2 ^ k % 2) 1) (suc n) n
     go true e n = rw e (omega (arith, eqb-true (m / 2 ^ k % 2) 1 e))
     go false e n = rw e (omega (arith, eqb-false (m / 2 ^ k % 2) 1 e))
-
-mod_le : (m k : ℕ) → m % 2 ^ k ≤ m
-mod_le m k = omega (arith, div-add-mod' m (2 ^ k))
 
 -- a bit from k on is as it was
 from_bit : (k m : ℕ) → bits (m - m % 2 ^ k) ≡ members_from k (bits m) → bits (m - m % 2 ^ k) k ≡ bits m k
@@ -125,10 +118,10 @@ from_is m k b e = record {
 }
 
 pub below_is : (m k b : ℕ) → b ≡ 2 ^ k → (m % b ≡ m % 2 ^ k) × (m % b ≤ m)
-below_is m k b e = rw e (refl, mod_le m k)
+below_is m k b e = rw e (refl, mod-le m (2 ^ k))
 
 pub below_some : (k b : ℕ) → b ≡ 2 ^ k → 1 ≤ b
-below_some k b e = rw e (power_pos k)
+below_some k b e = rw e (pow_pos k)
 
 module _ (m k : ℕ) {x : Bool} (h : x ≡ bits m k) where
   pub without_some : {b : ℕ} → x ≡ true → b ≡ 2 ^ k → b ≤ m

@@ -27,7 +27,11 @@ append_tensors ts (x ∷ xs) = append_tensors (ts ++ (node_tensor ts x ∷ [])) 
 unfoldable pub tensors : (d : ℕ) → List Node → Set d
 tensors d xs = append_tensors [] xs
 
--- "Zero is weight 0 at node 0." An edge to one of nodes 0 .. m.
+-- "Zero is weight 0 at node 0."
+abbrev pub nought : Edge
+nought = record { weight = 0; node = 0 }
+
+-- an edge to one of nodes 0 .. m; zero stands at node 0
 pub record Valid (m : ℕ) (e : Edge) : Type 0 where
   pub small : e.weight < modulus
   pub within : e.node ≤ m
@@ -35,8 +39,7 @@ pub record Valid (m : ℕ) (e : Edge) : Type 0 where
 
 -- node n of a list; in the place of node 0 a node whose index is d, which no node has
 unfoldable pub no_node : ℕ → Node
-no_node d =
-    record { index = d; low = record { weight = 0; node = 0 }; high = record { weight = 0; node = 0 }; mask = 0 }
+no_node d = record { index = d; low = nought; high = nought; mask = 0 }
 
 unfoldable pub node_in : ℕ → List Node → ℕ → Node
 node_in d xs n = get_or (no_node d ∷ xs) n (no_node d)

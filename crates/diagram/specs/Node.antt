@@ -5,9 +5,10 @@
 --   field 4   the unique table's head of bucket n - 1                     field 5   the next node of n's chain
 --   field 6   mask % 65536         field 7   mask / 65536
 use Rattle.std.specs.Prelude.{List, [], ◌∷◌, ◌++◌, ℕ, ◌+◌, ◌*◌, ◌/◌, ◌%◌, ◌≤◌, ◌<◌, ◌-◌, min, zero}
-use Rattle.std.specs.Prelude.{suc, length}
+use Rattle.std.specs.Prelude.{suc, length, Bool, eqb, ◌&&◌}
 use Rattle.diagram.specs.Fields.{field, put_field}
 use Rattle.diagram.specs.declared.node.Node.{Node}
+use Rattle.diagram.specs.declared.node.Edge.{Edge}
 
 -- the parts of a node are within their widths
 pub record NodeFits (x : Node) : Type 0 where
@@ -22,10 +23,14 @@ pub record NodeFits (x : Node) : Type 0 where
 abbrev pub capacity : List ℕ → ℕ
 capacity s = min 65535 (length s / 16)
 
+-- the store has the records of nodes 1 .. n
+abbrev pub HoldsNodes : List ℕ → ℕ → Type 0
+HoldsNodes s n = 16 * n ≤ length s
+
 -- node n's record lies within the store
 pub record RecordWithin (s : List ℕ) (n : ℕ) : Type 0 where
   pub first : 1 ≤ n
-  pub last : 16 * n ≤ length s
+  pub last : HoldsNodes s n
 
 -- the node of its six fields
 unfoldable pub decode : ℕ → ℕ → ℕ → ℕ → ℕ → ℕ → Node
@@ -71,3 +76,11 @@ listed f (suc m) = listed f m ++ (f (suc m) ∷ [])
 
 abbrev pub nodes_up_to : List ℕ → ℕ → List Node
 nodes_up_to s m = listed (node_at s) m
+
+-- what the derived `==` of edges and of nodes answers
+
+abbrev pub same_edge : Edge → Edge → Bool
+same_edge a b = eqb a.weight b.weight && eqb a.node b.node
+
+abbrev pub same_node : Node → Node → Bool
+same_node x y = eqb x.index y.index && (same_edge x.low y.low && (same_edge x.high y.high && eqb x.mask y.mask))

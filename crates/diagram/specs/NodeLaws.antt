@@ -1,5 +1,5 @@
 -- Laws of nodes' records: reading back, what a write leaves alone, nodes as a list, equality decided field by field.
-use Rattle.std.specs.Prelude.{◌≡◌, refl, ◌≢◌, Bool, eqb, ◌&&◌, get_or}
+use Rattle.std.specs.Prelude.{◌≡◌, refl, ◌≢◌, get_or}
 use Rattle.std.proofs.Common.{ap, ◌∙◌, subst, ap₂, sym, arith, add-one, length-append}
 use Rattle.std.proofs.Math.Path.{fun_ext}
 use mathlib.Core.List.{List, [], ◌∷◌, ◌++◌}
@@ -9,9 +9,9 @@ use Rattle.std.proofs.Math.ListN.{length, get_or-append}
 use Rattle.std.proofs.Math.Seq.{get_or-append_seam}
 use Rattle.std.specs.Bool.{Decides}
 use Rattle.std.proofs.lemmas.Bool.Decides.{Decides-and, Decides-eqb}
-use Rattle.diagram.specs.Fields.{field, put_field}
+use Rattle.diagram.specs.Fields.{field, put_field, Cleared}
 use Rattle.diagram.specs.FieldsLaws.{put_field_length, put_field_same, put_field_other, put_field_beside}
-use Rattle.diagram.specs.Node.{NodeFits, RecordWithin, put_node, decode, packed_field, node_at}
+use Rattle.diagram.specs.Node.{NodeFits, RecordWithin, put_node, decode, packed_field, node_at, same_edge, same_node}
 use Rattle.diagram.specs.Node.{listed}
 use Rattle.diagram.specs.Sets.{PrefixOf}
 use Rattle.diagram.specs.SetsLaws.{prefix_refl, prefix_trans}
@@ -43,12 +43,6 @@ pub node_eq : {x y : Node} → x.index ≡ y.index → x.low ≡ y.low → x.hig
 node_eq p q r t = λ i. record { index = p i; low = q i; high = r i; mask = t i }
 
 -- what the derived `==` of edges and of nodes answers
-
-abbrev pub same_edge : Edge → Edge → Bool
-same_edge a b = eqb a.weight b.weight && eqb a.node b.node
-
-abbrev pub same_node : Node → Node → Bool
-same_node x y = eqb x.index y.index && (same_edge x.low y.low && (same_edge x.high y.high && eqb x.mask y.mask))
 
 pub edge_told : (a b : Edge) → Decides (same_edge a b) (a ≡ b)
 edge_told a b =
@@ -100,6 +94,11 @@ pub put_node_lem : (s : List ℕ) (f i v : ℕ) → 4 ≤ f → f < 6 → node_a
 put_node_lem s f i v h l =
     fun_ext (λ n. same_fields s _ n
     (λ g k a b. there (put_field_beside s f i v g (omega arith) k (omega arith)) (n - 1)))
+
+-- .. nor does a field of more records, set to 0
+pub cleared_nodes : {s s' : List ℕ} {m : ℕ} (f : ℕ) → 4 ≤ f → f < 6 → Cleared s s' f m → node_at s' ≡ node_at s
+cleared_nodes {s} {s'} f h l c =
+    fun_ext (λ n. same_fields s s' n (λ g k a b. there (c.others g k (omega arith)) (n - 1)))
 
 -- A write of a node changes that node, and neither another node nor the table's fields.
 module _ (s : List ℕ) (n : ℕ) (x : Node) where

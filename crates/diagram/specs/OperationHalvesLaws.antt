@@ -129,6 +129,10 @@ module _ {c s : List ℕ} {st : State} {a b : Edge} {k : ℕ} (g : OperationRequ
       level_most s st g.sound b' cb.valid,
     )
 
+    -- so a recursion may go down to them
+    pub part : (edges_measure s st a' b' < edges_measure s st a b) × OperationRequires c s st a' b'
+    part = (part_less, part_ready)
+
 high_grows : {A B : Tensor indices} {k j : ℕ} {rec final : Binary indices} → PartsGrow A B k j rec final
     → (L : Tensor indices) (z : Set indices)
     → PrefixOf z (high_step rec final k A B L z).1

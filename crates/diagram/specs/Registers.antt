@@ -4,7 +4,7 @@ use Rattle.std.specs.Prelude.{Option as Optional}
 use Rattle.std.proofs.Math.Option.{Option, none, some}
 use Rattle.diagram.specs.Tensor.{Tensor}
 use Rattle.diagram.specs.Tally.{Set}
-use Rattle.diagram.specs.Meaning.{edge_in, Valid}
+use Rattle.diagram.specs.Meaning.{edge_in, Valid, nought}
 use Rattle.diagram.specs.declared.node.Edge.{Edge}
 
 -- "sixteen registers, each empty or a tensor, all empty at first"
@@ -20,7 +20,7 @@ occupied r = is_some r
 
 -- "a weight and a node number": the words of an empty one are 0
 abbrev pub edge_of : Register → Edge
-edge_of r = unwrap_or r (record { weight = 0; node = 0 })
+edge_of r = unwrap_or r nought
 
 -- register i was read as r
 pub record GetEnsures (rs : List Register) (i : ℕ) (r : Register) : Type 0 where

@@ -1,5 +1,6 @@
 -- Starting with no nodes, and coming back from a refused call or a sweep.
-use Rattle.std.specs.Prelude.{◌≡◌, List, [], ℕ, ◌*◌, ◌≤◌, ◌<◌, length}
+use Rattle.std.specs.Prelude.{◌≡◌, List, [], ℕ, ◌≤◌, ◌<◌, length}
+use Rattle.diagram.specs.Node.{HoldsNodes}
 use Rattle.diagram.specs.Insert as insert
 use Rattle.diagram.specs.Canonical.{Canonical}
 use Rattle.diagram.specs.Store.{nodes_of, Sound}
@@ -16,7 +17,7 @@ pub record StartEnsures (c s s' : List ℕ) (st : State) : Type 0 where
 
 -- what a refused call or a sweep leaves: the nodes of the state, perhaps more nodes, and a table to be made anew
 pub record RollbackRequires (c s : List ℕ) (st : State) : Type 0 where
-  pub room : 16 * st.count ≤ length s
+  pub room : HoldsNodes s st.count
   pub numbered : st.count < 65536
   pub ready : 16 ≤ length s → insert.TableFits s st.count st.buckets
   pub nodes : Canonical indices (nodes_of s st)

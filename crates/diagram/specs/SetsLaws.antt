@@ -2,9 +2,12 @@
 use Rattle.std.specs.Prelude.{◌≡◌, refl, Bool, true, false, cond, ◌||◌, List, [], ◌∷◌, ◌++◌, ℕ, zero, suc, ◌<◌, length}
 use Rattle.std.specs.Prelude.{get_or}
 use Rattle.std.proofs.Common.{ap, sym, ◌∙◌, true≢false, append_assoc, append-nil, arith, length-append}
+use Rattle.std.specs.Cmp.{both_ways}
+use Rattle.std.proofs.lemmas.Bool.{or_parts}
+use Rattle.std.proofs.lemmas.Bool.{or_right}
+use Rattle.std.proofs.lemmas.List.{nil_from_length}
 use Rattle.diagram.specs.Tensor.{Tensor, same, Normal}
 use Rattle.diagram.specs.TensorLaws.{same_refl, same_eq, eq_same}
-use Rattle.diagram.specs.TestLaws.{test_ext, or_right, or_false}
 use Rattle.diagram.specs.Tally.{Set, member, put}
 use Rattle.diagram.specs.Sets.{Distinct, put_all, Present, PrefixOf, AllNormal}
 
@@ -17,15 +20,11 @@ prefix_trans {s = s} g h = record {
   is = h.is ∙ ap (λ x. x ++ h.more) g.is ∙ append_assoc s g.more h.more;
 }
 
-no_length : {A : Type 0} (s : List A) → length s ≡ 0 → s ≡ []
-no_length [] e = refl
-no_length (x ∷ s) e = absurd (omega arith)
-
 pub prefix_back : {A : Type 0} {s t : List A} → PrefixOf s t → PrefixOf t s → t ≡ s
 prefix_back {s = s} {t = t} g h =
     let a = ap length g.is ∙ length-append s g.more in
     let b = ap length h.is ∙ length-append t h.more in
-    g.is ∙ ap (λ x. s ++ x) (no_length g.more (omega arith)) ∙ append-nil s
+    g.is ∙ ap (λ x. s ++ x) (nil_from_length g.more (omega arith)) ∙ append-nil s
 
 pub put_all_append : {d : ℕ} (xs ys s : Set d) → put_all (xs ++ ys) s ≡ put_all ys (put_all xs s)
 unfolding put_all
@@ -107,18 +106,18 @@ present_after [] s = tt
 present_after (x ∷ xs) s = (member_prefix x (put_all_grows xs (put x s)) (member_put x s), present_after xs (put x s))
 
 pub same_sym : {d : ℕ} (A B : Tensor d) → same A B ≡ same B A
-same_sym A B = test_ext (same A B) (same B A) (λ e. eq_same (sym (same_eq A B e))) (λ e. eq_same (sym (same_eq B A e)))
+same_sym A B = both_ways (same A B) (same B A) (λ e. eq_same (sym (same_eq A B e))) (λ e. eq_same (sym (same_eq B A e)))
 
 distinct_last : {d : ℕ} (x : Tensor d) (s : Set d) → member x s ≡ false → Distinct s → Distinct (s ++ (x ∷ []))
 unfolding member
 distinct_last x [] e p = (refl, tt)
 distinct_last x (y ∷ s) e p =
-    let n = or_false (same x y) (member x s) e in
+    let n = or_parts (same x y) (member x s) e in
     (member_other y s p.0 (same_sym y x ∙ n.0), distinct_last x s n.1 p.1)
   where
     member_other : (y : Tensor _) (s : Set _) → member y s ≡ false → same y x ≡ false → member y (s ++ (x ∷ [])) ≡ false
     member_other y [] p q = rw q
-    member_other y (z ∷ s) p q = let n = or_false (same y z) (member y s) p in rw n.0 (member_other y s n.1 q)
+    member_other y (z ∷ s) p q = let n = or_parts (same y z) (member y s) p in rw n.0 (member_other y s n.1 q)
 
 pub distinct_put : {d : ℕ} (x : Tensor d) (s : Set d) → Distinct s → Distinct (put x s)
 unfolding put

@@ -14,7 +14,7 @@ use Rattle.diagram.specs.Sets.{PrefixOf}
 use Rattle.diagram.specs.SetsLaws.{prefix_refl, prefix_trans, put_grows}
 use Rattle.diagram.specs.Node.{capacity, node_at}
 use Rattle.diagram.specs.NodeLaws.{edge_eq, listed_length, listed_at, listed_prefix}
-use Rattle.diagram.specs.Meaning.{tensor_at, edge_in, node_tensor, no_node, node_in, Valid}
+use Rattle.diagram.specs.Meaning.{tensor_at, edge_in, node_tensor, no_node, node_in, Valid, nought}
 use Rattle.diagram.specs.MeaningLaws.{tensors_length, edge_kept, tensors_prefix}
 use Rattle.diagram.specs.Canonical.{NormalNode}
 use Rattle.diagram.specs.CanonicalLaws.{normal_node_low, normal_node_high}
@@ -100,7 +100,7 @@ module _ {s : List ℕ} {st : State} (h : Sound s st) where
 
   -- "Zero is weight 0 at node 0."
   pub edge_zero : (a : edges.Edge) → Valid st.count a → tensor_of s st a ≡ constant indices 0w
-      → a ≡ record { weight = 0; node = 0 }
+      → a ≡ nought
   unfolding tensor_of set_of
   edge_zero a v e =
       let z = laws.edge_zero_weight indices (nodes_of s st) h.nodes a (valid v) (rw e (is_zero_constant indices)) in

@@ -5,7 +5,8 @@ use Rattle.std.proofs.Common.{ap, ap₂, sym, ◌∙◌, arith, not-suc-le-zero,
 use Rattle.std.proofs.Common.{eqb-true}
 use Rattle.std.proofs.Math.Option.{some}
 use Rattle.std.specs.Int.Bits.{bit_or}
-use Rattle.std.proofs.lemmas.Nat.{or_lt}
+use Rattle.std.proofs.lemmas.Nat.{or_lt, pow_pos}
+use Rattle.std.proofs.Math.Pow.{pow-lt}
 use Rattle.std.proofs.lemmas.Bool.{eqb-false}
 use Rattle.field.specs.Weight.{Weight, Nonzero}
 use Rattle.diagram.specs.Tensor.{Tensor, weight, split, Bits, tail, bits, same, constant, top, fix, depends}
@@ -16,8 +17,7 @@ use Rattle.diagram.specs.Top.{FreeBelow}
 use Rattle.diagram.specs.TopLaws.{top_constant, top_inside, top_joined}
 use Rattle.diagram.specs.TopFreeLaws.{free_depends, top_lowest, top_no, depends_parts, depends_scale}
 use Rattle.diagram.specs.TopFreeLaws.{joined_low, joined_high}
-use Rattle.diagram.specs.MaskLaws.{power_pos}
-use Rattle.diagram.specs.MaskBitsLaws.{power_less, bits_above, bits_same, bits_or, power_bits}
+use Rattle.diagram.specs.MaskBitsLaws.{bits_above, bits_same, bits_or, power_bits}
 use Rattle.diagram.specs.TabulateLaws.{bits_none}
 use Rattle.diagram.specs.Support.{mask_of, support_mask}
 
@@ -76,7 +76,7 @@ support_is {d} T m p e = bits_same d (support_mask T) m (support_below T) p (λ 
 -- "0 for a constant"
 pub support_constant : (d : ℕ) (w : Weight) → support_mask (constant d w) ≡ 0
 support_constant d w =
-    support_is (constant d w) 0 (power_pos d) (λ k. bits_none k ∙ sym (top_no (constant d w) (top_constant d w) k))
+    support_is (constant d w) 0 (pow_pos d) (λ k. bits_none k ∙ sym (top_no (constant d w) (top_constant d w) k))
 
 -- a multiple depends on the same indices
 pub support_scale : {d : ℕ} (c : Weight) (T : Tensor d) → Nonzero c → support_mask (scale c T) ≡ support_mask T
@@ -87,7 +87,7 @@ support_scale c T n =
 support_parts : {d : ℕ} (k : ℕ) (T : Tensor d) → top T ≡ some k
     → support_mask T ≡ bit_or (2 ^ k) (bit_or (support_mask (fix k false T)) (support_mask (fix k true T)))
 support_parts {d} k T e =
-    support_is T _ (or_lt d _ _ (power_less k d (top_inside k T e)) (or_lt d _ _ (support_below _) (support_below _)))
+    support_is T _ (or_lt d _ _ (pow-lt (top_inside k T e)) (or_lt d _ _ (support_below _) (support_below _)))
     (λ j. parts j ∙ at_each j)
   where
     parts : (j : ℕ) → bits (bit_or (2 ^ k) (bit_or (support_mask (fix k false T)) (support_mask (fix k true T)))) j

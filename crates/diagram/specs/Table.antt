@@ -4,7 +4,7 @@
 use Rattle.std.specs.Prelude.{◌≡◌, cond, ◌≢◌, List, ℕ, ◌+◌, ◌*◌, ◌≤◌}
 use Rattle.std.specs.Prelude.{◌<◌, ◌-◌, zero, suc, length, eqb, Option, Some, None}
 use Rattle.std.specs.Int.Bits.{bit_and}
-use Rattle.diagram.specs.Node.{node_at, head_at, next_at}
+use Rattle.diagram.specs.Node.{HoldsNodes, node_at, head_at, next_at}
 use Rattle.diagram.specs.declared.node.Node.{Node}
 
 -- `last h b m` is the largest n of 1 .. m with h n ≡ b, and 0 where there is none
@@ -33,7 +33,7 @@ hash_of k f n = hash k (f n)
 -- the table of the nodes 1 .. count, with k buckets, is right: a head is the last node of its bucket, a next the last
 -- one before its node
 pub record TableSound (s : List ℕ) (count k : ℕ) : Type 0 where
-  pub room : 16 * count ≤ length s
+  pub room : HoldsNodes s count
   pub numbered : count < 65536
   pub some : 1 ≤ k
   pub place : 16 * k ≤ length s

@@ -10,9 +10,10 @@ use Rattle.std.specs.Int.Bits.{bit_and}
 use Rattle.std.proofs.lemmas.Nat.{and_le_r}
 use Rattle.std.proofs.lemmas.Option.{none-some}
 use Rattle.std.proofs.lemmas.Bool.{false≢true}
+use Rattle.diagram.specs.Node.{same_node}
 use Rattle.diagram.specs.Table.{IsLast, last, hash_of, FindLoop, TableSound, FoundAt, FindEnsures, mix, hash}
 use Rattle.diagram.specs.Node.{node_at, head_at, next_at}
-use Rattle.diagram.specs.NodeLaws.{same_node, node_told}
+use Rattle.diagram.specs.NodeLaws.{node_told}
 use Rattle.diagram.specs.declared.node.Node.{Node}
 
 pub last_none : (h : ℕ → ℕ) (b : ℕ) → last h b 0 ≡ 0

@@ -10,13 +10,15 @@ use mathlib.Core.List.{List, [], ◌∷◌, ◌++◌, Sublistᴰ}
 use Prim.Native.Nat.{ℕ, zero, suc, ◌+◌, ◌-◌, ◌≤◌, ◌<◌}
 use Rattle.field.specs.Weight.{Weight, inverse_w, Nonzero}
 use Rattle.field.specs.InverseLaws.{inverse_nonzero}
+use Rattle.std.proofs.lemmas.Bool.{or_left, or_right}
+use Rattle.std.proofs.Math.Bool.{and-false, or_assoc}
 use Rattle.diagram.specs.Tensor.{Tensor, top, fix, first, normal, scale, same}
 use Rattle.diagram.specs.TensorLaws.{fix_scale, same_eq, eq_same, same_refl}
 use Rattle.diagram.specs.TopLaws.{free_below_fix, free_below_top, top_free_below, free_below_less, fix_free_below}
 use Rattle.diagram.specs.TopLaws.{top_is, top_inside}
 use Rattle.diagram.specs.Top.{FreeBelow, TopAtLeast}
 use Rattle.diagram.specs.TensorScaleLaws.{unscale, first_nonzero, top_nonzero, top_scale, normal_scale}
-use Rattle.diagram.specs.TestLaws.{cases, or_cases, or_left, or_right, or_assoc}
+use Rattle.diagram.specs.TestLaws.{cases, or_cases}
 use Rattle.diagram.specs.Tally.{Set, member, fix_both, cofactors_below, normal_at, normals, keeps, keep_only, collect}
 use Rattle.diagram.specs.Reach.{itself, more, Reachable, Covers, NormalCofactor, part, start, IsCofactorBelow}
 use Rattle.diagram.specs.Reach.{IsKept}
@@ -95,7 +97,7 @@ covers_exactly {d} s A =
 pub member_or : {d : ℕ} (x : Tensor d) (s t : Set d) → member x (s ++ t) ≡ (member x s || member x t)
 unfolding member
 member_or x [] t = refl
-member_or x (y ∷ s) t = rw (member_or x s t) (or_assoc (same x y) (member x s) (member x t))
+member_or x (y ∷ s) t = rw (member_or x s t) (sym (or_assoc (same x y) (member x s) (member x t)))
 
 -- the definition of `keeps` says this, both ways
 
@@ -259,11 +261,7 @@ module _ {d : ℕ} where
   keep_only_member : (l : List (Tensor d)) (s : Set d) (x : Tensor d) → member x (keep_only l s)
       ≡ (member x l && member x s)
   unfolding member keep_only
-  keep_only_member l [] x = none (member x l)
-    where
-      none : (b : Bool) → false ≡ (b && false)
-      none true = refl
-      none false = refl
+  keep_only_member l [] x = sym (and-false (member x l))
   keep_only_member l (y ∷ s) x = go (member y l) refl (same x y) refl (keep_only_member l s x)
     where
       go : (b : Bool) → member y l ≡ b → (c : Bool) → same x y ≡ c → member x (keep_only l s)

@@ -5,6 +5,7 @@ use Rattle.std.proofs.Math.Path.{fun_ext}
 use Rattle.std.proofs.Math.Option.{Option, none, some}
 use Rattle.field.specs.Weight.{Weight, 0w, times_w, Nonzero}
 use Rattle.field.specs.InverseLaws.{times_nonzero}
+use Rattle.std.proofs.Math.Bool.{or_comm}
 use Rattle.diagram.specs.Tensor.{Tensor, Bits, constant, is_zero, scale, times, top, lower_top, top2, fix, assign}
 use Rattle.diagram.specs.Tensor.{without, members, power2}
 use Rattle.diagram.specs.TensorLaws.{is_zero_eq, scale_zero, scale_comm}
@@ -16,7 +17,7 @@ use Rattle.diagram.specs.Top.{FreeBelow}
 use Rattle.diagram.specs.SumOverLaws.{sum_over_zero, sum_over_constant, sum_over_in, sum_over_out, free_below_over}
 use Rattle.diagram.specs.SumOver.{sum_over}
 use Rattle.diagram.specs.TensorScaleLaws.{is_zero_scale, top2_scale}
-use Rattle.diagram.specs.TestLaws.{no_some, or_comm}
+use Rattle.diagram.specs.TestLaws.{no_some}
 use Rattle.diagram.specs.Tally.{Set, Contraction, return, join, sum, cont_cases, cont_body, cont, Binary, ◌>>=◌}
 use Rattle.diagram.specs.Tally.{both}
 use Rattle.diagram.specs.Sets.{PrefixOf}

@@ -6,6 +6,7 @@ use Rattle.std.proofs.Math.Option.{Option, none, some}
 use Rattle.std.proofs.lemmas.Bool.{eqb-false}
 use Rattle.field.specs.Weight.{Weight, 0w, 1w, plus_w, same_w, Nonzero}
 use Rattle.field.specs.RingLaws.{same_w_eq}
+use Rattle.std.proofs.Math.Option.{some-injective}
 use Rattle.diagram.specs.Tensor.{Tensor, Bits, same, constant, is_zero, scale, plus, top, top2, fix, joined}
 use Rattle.diagram.specs.Tensor.{normal, multiple, without}
 use Rattle.diagram.specs.TensorLaws.{scale_one, zero_scale, scale_constant, same_eq, joined_fix}
@@ -16,7 +17,7 @@ use Rattle.diagram.specs.Top.{FreeBelow, IsLowerTop, Free}
 use Rattle.diagram.specs.TopLaws.{lower_top_lem, induction, induction2}
 use Rattle.diagram.specs.TopFreeLaws.{free_fix, joined_low, joined_high}
 use Rattle.diagram.specs.TensorScaleLaws.{multiple_eq}
-use Rattle.diagram.specs.TestLaws.{some_same, no_some, cases}
+use Rattle.diagram.specs.TestLaws.{no_some, cases}
 use Rattle.diagram.specs.Tally.{Set, Step, member, put, join_cases, join, sum, cont, low, build}
 use Rattle.diagram.specs.Sets.{PrefixOf}
 use Rattle.diagram.specs.SetsLaws.{member_prefix, put_grows, member_put}
@@ -69,7 +70,7 @@ module _ {d : ℕ} (k : ℕ) (L H : Tensor d) (s : Set d) (p : k < d) (f : FreeB
       reached : (e : same L H ≡ false) (x : Tensor d) → Reachable x T → member x (put (normal T) s) ≡ true
       reached e x (itself j q z) = rw z (member_put (normal T) s)
       reached e x (part j q b r) =
-          let same_index : j ≡ k = some_same (sym q ∙ top_joined k L H p f g e) in
+          let same_index : j ≡ k = some-injective _ _ (sym q ∙ top_joined k L H p f g e) in
           member_prefix x (put_grows (normal T) s) (half b x (rw same_index at r))
 
       differ : same L H ≡ false → CoversAnswer (join k L H s)

@@ -7,12 +7,13 @@ use Rattle.std.proofs.lemmas.Bool.{false≢true}
 use mathlib.Core.List.{[], ◌∷◌, ◌++◌}
 use Rattle.std.proofs.Math.Option.{Option, none, some}
 use Rattle.field.specs.Weight.{0w}
+use Rattle.std.specs.Cmp.{both_ways}
+use Rattle.std.proofs.lemmas.Bool.{or_right}
 use Rattle.diagram.specs.Tensor.{Tensor, Bits, tail, same, constant, is_zero, scale, plus, times, top, top2, fix}
 use Rattle.diagram.specs.Tensor.{joined, normal, multiple}
 use Rattle.diagram.specs.Tensor.{assign, without}
 use Rattle.diagram.specs.Tensor.{members, power2}
 use Rattle.diagram.specs.TensorLaws.{same_refl, same_eq}
-use Rattle.diagram.specs.TestLaws.{test_ext, or_right}
 use Rattle.diagram.specs.TopLaws.{lower_top_lem, top_inside, induction, induction2}
 use Rattle.diagram.specs.Tally.{Set, Step, Binary, Unary, return, ◌>>=◌, member, put, join_cases, join, both}
 use Rattle.diagram.specs.Tally.{sum_cases, sum_body, sum, cont_cases}
@@ -240,7 +241,7 @@ module _ (m : ℕ) where
 
   keeps_grow : {d : ℕ} (l : Set d) (x : Tensor d)
       → member (grow m x) (keeps (deeper d m) (grow_all m l)) ≡ member x (keeps d l)
-  keeps_grow {d} l x = test_ext _ _ above below
+  keeps_grow {d} l x = both_ways _ _ above below
     where
       above : member (grow m x) (keeps (deeper d m) (grow_all m l)) ≡ true → member x (keeps d l) ≡ true
       above e =

@@ -7,9 +7,10 @@ use Rattle.std.proofs.Math.Option.{some}
 use Rattle.std.specs.Int.Bits.{bit_and, and_lt}
 use Rattle.std.proofs.lemmas.Bool.{eqb-false}
 use Rattle.field.specs.Weight.{Weight, Nonzero}
+use Rattle.std.proofs.lemmas.Bool.{or_parts}
 use Rattle.diagram.specs.Tensor.{Tensor, Bits, bits, at, value, top, fix, depends, joined, scale}
 use Rattle.diagram.specs.TabulateLaws.{bits_none}
-use Rattle.diagram.specs.TestLaws.{cases, cond_ap, or_false}
+use Rattle.diagram.specs.TestLaws.{cases, cond_ap}
 use Rattle.diagram.specs.Top.{FreeBelow}
 use Rattle.diagram.specs.TopLaws.{top_inside}
 use Rattle.diagram.specs.TopFreeLaws.{top_lowest, depends_scale, depends_fix}
@@ -35,7 +36,7 @@ any_none : (d : ℕ) (f : ℕ → Bool) → any_below d f ≡ false → (k : ℕ
 unfolding any_below
 any_none zero f e k p = absurd (not-suc-le-zero p)
 any_none (suc d) f e k p =
-    let n = or_false (f d) (any_below d f) e in
+    let n = or_parts (f d) (any_below d f) e in
     cases (eqb k d) (λ q. ap f (eqb-true k d q) ∙ n.0) (λ q. any_none d f n.1 k (omega (arith, eqb-false k d q)))
 
 none_any : (d : ℕ) (f : ℕ → Bool) → ((k : ℕ) → k < d → f k ≡ false) → any_below d f ≡ false

@@ -5,6 +5,7 @@ use Rattle.std.proofs.Math.Option.{Option, none, some}
 use Rattle.field.specs.Weight.{Weight, to_weight, 0w, 1w, plus_w, times_w, same_w, inverse_w, Nonzero}
 use Rattle.field.specs.RingLaws.{times_w_comm, times_w_assoc, times_w_one, times_w_plus}
 use Rattle.field.specs.InverseLaws.{inverse}
+use Rattle.std.proofs.Math.Bool.{or-false}
 use Rattle.diagram.specs.Tensor.{Tensor, weight, split, Bits, tail, same, constant, is_zero, scale, times, top}
 use Rattle.diagram.specs.Tensor.{lower_top, top2, fix, normal, assign, members, power2, members_from, two}
 use Rattle.diagram.specs.TensorLaws.{scale_scale, scale_zero, is_zero_eq, zero_constant, scale_one, joined_fix}
@@ -20,7 +21,6 @@ use Rattle.diagram.specs.TallyStep.{ScaledStep}
 use Rattle.diagram.specs.TallySumLaws.{sum_scaled}
 use Rattle.diagram.specs.TallyContLaws.{cont_step, combine_scaled}
 use Rattle.diagram.specs.TensorBitsLaws.{assign_same, assign_other, assign_assign, members_none}
-use Rattle.diagram.specs.TestLaws.{or_none}
 use Rattle.diagram.specs.Reach.{Covers, itself, part}
 
 -- sum: one ratio
@@ -152,7 +152,7 @@ pub cont_constant : {d : ℕ} (b : Weight) → Nonzero b → (S : Bits) → ((k 
     → cont A (constant d b) S s ≡ (scale b A, s)
 unfolding cont_body
 cont_constant {d} b n S m s = induction (λ A. Covers s A → cont A (constant d b) S s ≡ (scale b A, s))
-    (λ A h c. rw (cont_step A (constant d b) S, zero_constant d b, n.is, top2_constant A b, or_none (is_zero A))
+    (λ A h c. rw (cont_step A (constant d b) S, zero_constant d b, n.is, top2_constant A b, or-false (is_zero A))
     (cont_cases_constant b n S m s (is_zero A) (top A) A refl refl c h))
 
 pub members_from_at : (k j : ℕ) (S : Bits) → k ≤ j → members_from k S j ≡ S j

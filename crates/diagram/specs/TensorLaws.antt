@@ -2,10 +2,12 @@
 -- TensorRingLaws.)
 use Rattle.std.specs.Prelude.{◌≡◌, refl, Bool, true, false, ℕ, zero, suc, ◌+◌, ◌%◌, ◌^◌, ◌<◌}
 use Rattle.std.proofs.Math.Path.{ap}
-use Rattle.std.proofs.Common.{ap₂, sym, ◌∙◌, arith, not-suc-le-zero, le_of_suc-le-suc, pow-suc, eq-eqb, ne_eqb}
+use Rattle.std.proofs.Common.{ap₂, sym, ◌∙◌, arith, not-suc-le-zero, le_of_suc-le-suc, eq-eqb, ne_eqb}
 use Rattle.field.specs.Weight.{Weight, 0w, 1w, times_w, same_w}
 use Rattle.field.specs.RingLaws.{same_w_eq, same_w_refl, times_w_comm, times_w_assoc, times_w_one, times_w_zero}
-use Rattle.diagram.specs.TestLaws.{and_left, and_right, and_same, branch_same, branch_ap, branch_ap₂, branch_swap}
+use Rattle.std.proofs.Math.Bool.{and_self}
+pub use Rattle.std.proofs.Math.Nat.{two-pow-succ as power_suc}
+use Rattle.diagram.specs.TestLaws.{and_left, and_right, branch_same, branch_ap, branch_ap₂, branch_swap}
 use Rattle.diagram.specs.TestLaws.{cond_same}
 use Rattle.diagram.specs.Tensor.{Tensor, weight, split, branch, Bits, tail, bits, at, value, same, constant}
 use Rattle.diagram.specs.Tensor.{is_zero, scale, first, fix, joined, assign}
@@ -35,9 +37,6 @@ value_even l h v = rw (ne_eqb ((v + v) % 2) 1 (omega arith)) (ap (λ x. at l (bi
 pub value_odd : {d : ℕ} (l h : Tensor d) (v : ℕ) → value (split l h) (v + v + 1) ≡ value h v
 unfolding value at bits
 value_odd l h v = rw (eq-eqb ((v + v + 1) % 2) 1 (omega arith)) (ap (λ x. at h (bits x)) (omega arith))
-
-pub power_suc : (d : ℕ) → 2 ^ suc d ≡ 2 ^ d + 2 ^ d
-power_suc d = pow-suc 2 d ∙ omega arith
 
 -- tensors that agree at each assignment are equal
 pub eq_value : {d : ℕ} (A B : Tensor d) → ((v : ℕ) → v < 2 ^ d → value A v ≡ value B v) → A ≡ B
@@ -197,4 +196,4 @@ first_constant (suc d) w = rw (first_constant d w) (cond_same (is_zero (constant
 pub zero_constant : (d : ℕ) (w : Weight) → is_zero (constant d w) ≡ same_w w 0w
 unfolding is_zero constant
 zero_constant zero w = refl
-zero_constant (suc d) w = rw (zero_constant d w) (and_same (same_w w 0w))
+zero_constant (suc d) w = rw (zero_constant d w) (and_self (same_w w 0w))

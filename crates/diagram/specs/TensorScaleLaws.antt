@@ -5,7 +5,8 @@ use Rattle.std.proofs.Math.Option.{some}
 use Rattle.field.specs.Weight.{Weight, 0w, 1w, times_w, inverse_w, Nonzero}
 use Rattle.field.specs.RingLaws.{not_zero, times_w_comm, times_w_one}
 use Rattle.field.specs.InverseLaws.{inverse, times_nonzero, inverse_nonzero, inverse_one, inverse_times}
-use Rattle.diagram.specs.TestLaws.{cases, no_some, cond_ap, test_ext}
+use Rattle.std.specs.Cmp.{both_ways}
+use Rattle.diagram.specs.TestLaws.{cases, no_some, cond_ap}
 use Rattle.diagram.specs.Tensor.{Tensor, weight, split, Normal, same, constant, is_zero, scale, first, top, top2}
 use Rattle.diagram.specs.Tensor.{lower_top, joined, normal, multiple}
 use Rattle.diagram.specs.TensorLaws.{same_eq, eq_same, scale_scale, scale_one, scale_zero, is_zero_eq}
@@ -24,12 +25,12 @@ scale_cancel {c = c} {A = A} {B = B} n e = sym (unscale A n) ∙ ap (scale (inve
 
 pub same_scale : {d : ℕ} (c : Weight) (A B : Tensor d) → Nonzero c → same (scale c A) (scale c B) ≡ same A B
 same_scale c A B n =
-    test_ext (same (scale c A) (scale c B)) (same A B) (λ e. eq_same
+    both_ways (same (scale c A) (scale c B)) (same A B) (λ e. eq_same
     (scale_cancel n (same_eq (scale c A) (scale c B) e)))
     (λ e. eq_same (ap (scale c) (same_eq A B e)))
 
 pub is_zero_scale : {d : ℕ} (c : Weight) (T : Tensor d) → Nonzero c → is_zero (scale c T) ≡ is_zero T
-is_zero_scale {d} c T n = test_ext (is_zero (scale c T)) (is_zero T) (λ e. let z : T ≡ constant d 0w =
+is_zero_scale {d} c T n = both_ways (is_zero (scale c T)) (is_zero T) (λ e. let z : T ≡ constant d 0w =
     sym (unscale T n) ∙ ap (scale (inverse_w c)) (is_zero_eq (scale c T) e)
     ∙ scale_zero d (inverse_w c) in rw z (is_zero_constant d))
     (λ e. rw (is_zero_eq T e, scale_zero d c) (is_zero_constant d))

@@ -4,6 +4,8 @@ use Rattle.std.proofs.Common.{ap, ap₂, sym, ◌∙◌, true≢false, arith, no
 use Rattle.std.proofs.Math.Option.{none, some}
 use Rattle.field.specs.Weight.{Weight, Nonzero, 0w, 1w}
 use Rattle.field.specs.RingLaws.{one_nonzero, nonzero_not}
+use Rattle.std.proofs.Math.Bool.{and_self}
+use Rattle.std.proofs.lemmas.Bool.{not-false}
 use Rattle.diagram.specs.Tensor.{Tensor, same, top, fix, depends, joined, scale, weight, split, is_zero, first}
 use Rattle.diagram.specs.TensorLaws.{same_eq, eq_same, fix_fix, fix_scale, joined_fix, fix_joined, is_zero_eq}
 use Rattle.diagram.specs.TensorLaws.{fix_again, first_constant}
@@ -11,7 +13,7 @@ use Rattle.diagram.specs.TopLaws.{free_below_top, free_below_less, free_below_su
 use Rattle.diagram.specs.TopLaws.{top_depends}
 use Rattle.diagram.specs.Top.{FreeBelow, Free}
 use Rattle.diagram.specs.TensorScaleLaws.{same_scale}
-use Rattle.diagram.specs.TestLaws.{cases, cond_same, and_same}
+use Rattle.diagram.specs.TestLaws.{cases, cond_same}
 
 pub free_depends : {d : ℕ} (k : ℕ) (T : Tensor d) → Free k T → depends k T ≡ false
 unfolding depends
@@ -19,11 +21,7 @@ free_depends k T f = rw (eq_same f.is)
 
 pub depends_free : {d : ℕ} (k : ℕ) (T : Tensor d) → depends k T ≡ false → Free k T
 unfolding depends
-depends_free k T e = record { is = same_eq _ _ (go (same (fix k false T) (fix k true T)) e) }
-  where
-    go : (b : Bool) → not b ≡ false → b ≡ true
-    go true e = refl
-    go false e = sym e
+depends_free k T e = record { is = same_eq _ _ (not-false (same (fix k false T) (fix k true T)) e) }
 
 from_free : {d : ℕ} (k : ℕ) (T : Tensor d) → FreeBelow (suc k) T → Free k T
 from_free k T f = record { is = fix_free_below k false T f ∙ sym (fix_free_below k true T f) }
@@ -96,7 +94,7 @@ depends_scale k c T n =
 
 is_zero_twice : {d : ℕ} (T : Tensor d) → is_zero (split T T) ≡ is_zero T
 unfolding is_zero
-is_zero_twice T = and_same (is_zero T)
+is_zero_twice T = and_self (is_zero T)
 
 first_twice : {d : ℕ} (T : Tensor d) → first (split T T) ≡ first T
 unfolding first

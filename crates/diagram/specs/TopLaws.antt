@@ -3,13 +3,14 @@ use Rattle.std.specs.Prelude.{◌≡◌, refl, Bool, true, false, cond, ℕ, zer
 use Rattle.std.proofs.Common.{ap, ap₂, sym, ◌∙◌, suc-le-suc, arith, not-suc-le-zero, le_of_suc-le-suc, le_refl}
 use Rattle.std.proofs.Common.{leb-true, leb-false}
 use Rattle.std.proofs.Math.Option.{Option, none, some}
+use Rattle.std.proofs.Math.Bool.{and_self}
+use Rattle.std.proofs.Math.Option.{some-injective}
 use Rattle.diagram.specs.Descend.{top_measure, Local, Local2, on_top, on_top2}
 use Rattle.diagram.specs.DescendLaws.{descend_step, descend_induction}
 use Rattle.field.specs.Weight.{Weight}
 use Rattle.diagram.specs.Tensor.{Tensor, weight, split, same, constant, next, top, lower_top, top2, fix}
 use Rattle.diagram.specs.Tensor.{joined, plus}
 use Rattle.diagram.specs.Tensor.{times, low_half}
-use Rattle.diagram.specs.TestLaws.{and_same, some_same}
 use Rattle.diagram.specs.TensorLaws.{same_refl, same_eq, eq_same}
 use Rattle.diagram.specs.Top.{TopAtLeast, FreeBelow, IsLowerTop, TopWithin}
 
@@ -137,10 +138,10 @@ pub top_joined : {d : ℕ} (k : ℕ) (L H : Tensor d) → k < d → FreeBelow (s
 unfolding top joined same
 top_joined k (weight v) (weight w) p f g n = absurd (not-suc-le-zero p)
 top_joined zero (split l h) (split l' h') p f g n =
-    let m : same l l' ≡ false = sym (and_same (same l l')) ∙ (rw (← f.0, ← g.0) at n) in
+    let m : same l l' ≡ false = sym (and_self (same l l')) ∙ (rw (← f.0, ← g.0) at n) in
     rw (← g.0, m)
 top_joined (suc k) (split l h) (split l' h') p f g n =
-    let m : same l l' ≡ false = sym (and_same (same l l')) ∙ (rw (← f.0, ← g.0) at n) in
+    let m : same l l' ≡ false = sym (and_self (same l l')) ∙ (rw (← f.0, ← g.0) at n) in
     rw (eq_same (ap₂ (joined k) f.0 g.0), top_joined k l l' (le_of_suc-le-suc p) f.1 g.1 m)
 
 pub top_is : {d : ℕ} (k : ℕ) (T : Tensor d) → top T ≡ some k → FreeBelow k T
@@ -178,7 +179,7 @@ lower_top_lem {d} A B k e = go (top A) (top B) e (λ j. free_below_top j A) (λ 
           inside = omega arith;
           least = λ j x y. omega (arith, f' j x);
         }
-    go (some i) (some j) e f g f' g' u v = pair (leb i j) refl (some_same e)
+    go (some i) (some j) e f g f' g' u v = pair (leb i j) refl (some-injective _ _ e)
       where
         pair : (t : Bool) → leb i j ≡ t → cond t i j ≡ k → IsLowerTop A B k
         pair true t q =

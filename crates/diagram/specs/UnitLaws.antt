@@ -1,7 +1,7 @@
 -- Laws of `unit`: qubit by qubit from the last to the first, as a tensor and in a store.
 use Rattle.std.specs.Prelude.{◌≡◌, refl, Bool, true, false, cond, ◌&&◌, ◌≢◌, List, Result, Ok, Err}
 use Rattle.std.proofs.Common.{ap, ap₂, sym, ◌∙◌, subst}
-use Rattle.std.proofs.Math.Bool.{and_assoc}
+use Rattle.std.proofs.Math.Bool.{and_assoc, and-true}
 use Prim.Native.Nat.{ℕ, zero, suc, ◌+◌, ◌*◌, ◌≤◌, ◌<◌, ◌-◌}
 use native.Mathlib.Omega.{arith}
 use Rattle.std.proofs.Math.Numerals.{add-one}
@@ -19,6 +19,7 @@ use Rattle.diagram.specs.Tally.{Set, join, build}
 use Rattle.diagram.specs.TallyStepLaws.{writes_grows, writes_again, writes_stable}
 use Rattle.diagram.specs.TallyBuildLaws.{build_writes}
 use Rattle.diagram.specs.TallyPartsLaws.{build_weight, build_joined}
+use Rattle.diagram.specs.Meaning.{nought}
 use Rattle.diagram.specs.MeaningLaws.{valid_more}
 use Rattle.diagram.specs.Store.{set_of, tensor_of, Sound, RefinesEdge, RefinesFull, Refines}
 use Rattle.diagram.specs.StoreLaws.{refines_as, sets_prefix, tensor_kept}
@@ -45,12 +46,8 @@ unfolding straight straight_from
 straight_from_lem zero f = refl
 straight_from_lem (suc n) f = rw (straight_from_lem n f) (last 0 n n (omega arith))
   where
-    and_one : (a : Bool) → a ≡ (a && true)
-    and_one true = refl
-    and_one false = refl
-
     last : (q m r : ℕ) → r ≡ q + m → (straight_from q m f && own r f) ≡ straight_from q (suc m) f
-    last q zero r e = let i : r ≡ q = omega arith in rw i (and_one (own q f))
+    last q zero r e = let i : r ≡ q = omega arith in rw i (sym (and-true (own q f)))
     last q (suc m) r e = and_assoc (own q f) (straight_from (suc q) m f) (own r f)
         ∙ ap (λ b. own q f && b) (last (suc q) m r (omega arith))
 
@@ -119,10 +116,7 @@ pub unit_after : (d q m : ℕ) → FreeBelow (suc (middle q)) (unit_from {d = d}
 unit_after d q m =
     free_below_less (suc (middle q)) (input (suc q)) (unit_from (suc q) m) (omega arith) (from_unit d (suc q) m)
 
-abbrev none : Edge
-none = record { weight = 0; node = 0 }
-
-none_tensor : {s : List ℕ} {st : State} → Sound s st → tensor_of s st none ≡ constant indices 0w
+none_tensor : {s : List ℕ} {st : State} → Sound s st → tensor_of s st nought ≡ constant indices 0w
 none_tensor h = constant_tensor 0 h ∙ ap (constant indices) weight_zero
 
 module _ (s : List ℕ) (st : State) (q : ℕ) (e : Edge) (o : OntoRequires s st q e) where
@@ -138,10 +132,10 @@ module _ (s : List ℕ) (st : State) (q : ℕ) (e : Edge) (o : OntoRequires s st
   inside : middle q < index_count
   inside = omega (arith, o.qubit)
 
-  from_none : {s' : List ℕ} {t : State} → Sound s' t → FreeBelow (suc (middle q)) (tensor_of s' t none)
+  from_none : {s' : List ℕ} {t : State} → Sound s' t → FreeBelow (suc (middle q)) (tensor_of s' t nought)
   from_none h = rw (none_tensor h) (free_below_constant (suc (middle q)) indices 0w)
 
-  pub first_joinable : JoinRequires s st (middle q) e none
+  pub first_joinable : JoinRequires s st (middle q) e nought
   first_joinable = record {
     inside = inside;
     low = o.valid;
@@ -152,7 +146,7 @@ module _ (s : List ℕ) (st : State) (q : ℕ) (e : Edge) (o : OntoRequires s st
 
   -- the first join builds the low part
   module _ where
-    first_same : build A (set_of s st) ≡ join (middle q) (tensor_of s st e) (tensor_of s st none) (set_of s st)
+    first_same : build A (set_of s st) ≡ join (middle q) (tensor_of s st e) (tensor_of s st nought) (set_of s st)
     first_same =
         build_joined (middle q) U (constant indices 0w) (set_of s st) (rw indices_count inside) o.above
         (free_below_constant (suc (middle q)) indices 0w) _ _
@@ -165,14 +159,14 @@ module _ (s : List ℕ) (st : State) (q : ℕ) (e : Edge) (o : OntoRequires s st
     high : FreeBelow (suc (input q)) B
     high = onto_high q U o.above
 
-    pub first_full : {s₁ : List ℕ} → RefinesFull s s₁ st (join (middle q) (tensor_of s st e) (tensor_of s st none))
+    pub first_full : {s₁ : List ℕ} → RefinesFull s s₁ st (join (middle q) (tensor_of s st e) (tensor_of s st nought))
         → RefinesFull s s₁ st (build (onto q (tensor_of s st e)))
     unfolding onto
     first_full {s₁} f = build_low_full (input q) A B (omega (arith, inside)) low high
         (refines_as s s₁ st st (build A) _ (Err (record {})) first_same f)
 
     module _ {s₁ : List ℕ} {t : State} {a : Edge}
-        (first : RefinesEdge s s₁ st t (join (middle q) (tensor_of s st e) (tensor_of s st none)) a) where
+        (first : RefinesEdge s s₁ st t (join (middle q) (tensor_of s st e) (tensor_of s st nought)) a) where
       d : RefinesEdge s s₁ st t (build A) a
       d = refines_as s s₁ st t (build A) _ (Ok a) first_same first
 
@@ -182,7 +176,7 @@ module _ (s : List ℕ) (st : State) (q : ℕ) (e : Edge) (o : OntoRequires s st
       pub first_sound : Sound s₁ t
       first_sound = d.sound
 
-      pub second_joinable : JoinRequires s₁ t (middle q) none e
+      pub second_joinable : JoinRequires s₁ t (middle q) nought e
       second_joinable =
           record {
             inside = inside;
@@ -195,7 +189,7 @@ module _ (s : List ℕ) (st : State) (q : ℕ) (e : Edge) (o : OntoRequires s st
       -- the second builds the high part
       module _ where
         second_same : build B (set_of s₁ t)
-            ≡ join (middle q) (tensor_of s₁ t none) (tensor_of s₁ t e) (set_of s₁ t)
+            ≡ join (middle q) (tensor_of s₁ t nought) (tensor_of s₁ t e) (set_of s₁ t)
         second_same =
             let again : build U (set_of s₁ t) ≡ (U, set_of s₁ t) =
             writes_stable (build_writes U) (set_of s st) (set_of s₁ t) (sets_prefix s s₁ st t d.grown)
@@ -205,7 +199,8 @@ module _ (s : List ℕ) (st : State) (q : ℕ) (e : Edge) (o : OntoRequires s st
             (build_weight 0w (set_of s₁ t)) again ∙ ap₂ (λ Z X. join (middle q) Z X (set_of s₁ t))
             (sym (none_tensor d.sound)) (sym kept)
 
-        pub second_full : {s₂ : List ℕ} → RefinesFull s₁ s₂ t (join (middle q) (tensor_of s₁ t none) (tensor_of s₁ t e))
+        pub second_full : {s₂ : List ℕ}
+            → RefinesFull s₁ s₂ t (join (middle q) (tensor_of s₁ t nought) (tensor_of s₁ t e))
             → RefinesFull s s₂ st (build (onto q (tensor_of s st e)))
         unfolding onto
         second_full {s₂} f =
@@ -214,7 +209,7 @@ module _ (s : List ℕ) (st : State) (q : ℕ) (e : Edge) (o : OntoRequires s st
 
         -- the third joins them
         module _ {s₂ : List ℕ} {u : State} {b : Edge}
-            (second : RefinesEdge s₁ s₂ t u (join (middle q) (tensor_of s₁ t none) (tensor_of s₁ t e)) b) where
+            (second : RefinesEdge s₁ s₂ t u (join (middle q) (tensor_of s₁ t nought) (tensor_of s₁ t e)) b) where
           d' : RefinesEdge s₁ s₂ t u (build B) b
           d' = refines_as s₁ s₂ t u (build B) _ (Ok b) second_same second
 

@@ -21,6 +21,8 @@ fn with_bit(v: Assignment, k: Index) -> Assignment
 }
 
 // The first index from k on that is the middle or fresh index of p or q, or the number of indices; p is not above q.
+// (That number for "no index", as for a constant's top: it is compared by `<` with indices, and at it the recursion
+// ends. An Option would be unwrapped at each.)
 fn owned(p: Qubit, q: Qubit, k: Index) -> Index
     requires { (p ≤ q) × ((q < 8) × (k ≤ index_count)) }
     ensures { NoneOwned p q k result }

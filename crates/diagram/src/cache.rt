@@ -1,5 +1,6 @@
 // The operation cache: remembered results, in a lent slice of any length.
-// An entry is four words: the operation and its nodes, its argument, the epoch, the result.
+// An entry is four words: the operation and its nodes, its argument, the epoch, the result. (They are no struct, since
+// programs in other languages lend plain words, as many as they like.)
 ghost use Rattle.std.specs.Prelude.{◌≡◌, ◌≤◌, ◌<◌};
 ghost use Rattle.diagram.specs.Cache.{code_of, pack, KeyFits, EdgeFits, LookupEnsures, RememberEnsures, AllZero};
 ghost use Rattle.diagram.specs.Cache.{NoneLater, AllEarlier};

@@ -1,7 +1,7 @@
 // Collection (document 01, `collect`): the nodes that no filled register reaches go, the gaps close, the order stays.
 // Marks and new numbers live in the records meanwhile; the unique table is made anew, and nothing is remembered across.
-ghost use Rattle.std.specs.Prelude.{◌*◌, ◌≤◌, ◌<◌, length};
-ghost use Rattle.diagram.specs.Node.{node_at};
+ghost use Rattle.std.specs.Prelude.{◌≤◌, ◌<◌};
+ghost use Rattle.diagram.specs.Node.{node_at, HoldsNodes};
 ghost use Rattle.diagram.specs.Mark.{ChildrenBefore};
 ghost use Rattle.diagram.specs.Registers.{RegistersValid};
 ghost use Rattle.diagram.specs.Collect.{SweepEnsures, CollectRequires, CollectEnsures};
@@ -21,7 +21,7 @@ struct SweepResult {
 
 // Moves the reached nodes down; the answer is how many they are, and the registers with their nodes' new numbers.
 fn sweep(store: &mut [u8], count: NodeCount, registers: Registers) -> SweepResult
-    requires { (16 * count ≤ length store.old) × ((count < 65536) ×
+    requires { HoldsNodes store.old count × ((count < 65536) ×
         (ChildrenBefore (node_at store.old) count × RegistersValid count registers.all)) }
     ensures { SweepEnsures count registers.all store.old store.new result.count
         result.registers.all }

@@ -1,7 +1,7 @@
 // Moves the marked nodes down. Field 5 of a node's record holds its mark, and once it has moved its new number.
-ghost use Rattle.std.specs.Prelude.{◌≡◌, ◌≢◌, ◌+◌, ◌*◌, ◌-◌, ◌≤◌, ◌<◌, length, Some};
+ghost use Rattle.std.specs.Prelude.{◌≡◌, ◌≢◌, ◌+◌, ◌-◌, ◌≤◌, ◌<◌, Some};
 ghost use Rattle.diagram.specs.Fields.{field};
-ghost use Rattle.diagram.specs.Node.{NodeFits, RecordWithin, node_at};
+ghost use Rattle.diagram.specs.Node.{NodeFits, RecordWithin, HoldsNodes, node_at};
 ghost use Rattle.diagram.specs.Compact.{ChildrenWithin, MarksClosed, forward as forwarded, shift_node};
 ghost use Rattle.diagram.specs.Compact.{renumber_node, CompactStepEnsures, CompactEnsures, renumber_register};
 ghost use Rattle.diagram.specs.Compact.{renumber_registers};
@@ -14,7 +14,7 @@ use crate::{fields, node};
 
 // The new number of the child c.
 fn forward(s: &[u8], c: NodeNumber) -> NodeNumber
-    requires { 16 * c ≤ length s.now }
+    requires { HoldsNodes s.now c }
     ensures { (result ≡ forwarded s.now c) × (result < 65536) }
 {
     if c == 0 {
@@ -46,7 +46,7 @@ fn shift(s: &mut [u8], n: NodeNumber, k: NodeNumber)
 
 // Looks at node m + 1, where k nodes have moved; the answer is how many have then.
 fn compact_step(s: &mut [u8], count: NodeCount, m: NodeCount, k: NodeCount) -> NodeCount
-    requires { (m < count) × ((16 * count ≤ length s.old) ×
+    requires { (m < count) × (HoldsNodes s.old count ×
         ((count < 65536) × ((k ≤ m) × (field s.old 5 m ≢ 0 → ChildrenWithin s.old (m + 1))))) }
     ensures { CompactStepEnsures count s.old s.new m k result }
 {
@@ -61,7 +61,7 @@ fn compact_step(s: &mut [u8], count: NodeCount, m: NodeCount, k: NodeCount) -> N
 
 // Moves the marked nodes of 1 .. count down; the answer is how many they are.
 pub(crate) fn compact(s: &mut [u8], count: NodeCount) -> NodeCount
-    requires { (16 * count ≤ length s.old) × ((count < 65536) × MarksClosed (λ n. field s.old 5 (n - 1))
+    requires { HoldsNodes s.old count × ((count < 65536) × MarksClosed (λ n. field s.old 5 (n - 1))
         (node_at s.old) count) }
     ensures { CompactEnsures s.old s.new count result }
 {
@@ -75,7 +75,7 @@ pub(crate) fn compact(s: &mut [u8], count: NodeCount) -> NodeCount
 // A register with its node's new number.
 #[tactic(auto, unfolding(crate::specs::Compact::renumber_register))]
 fn moved(s: &[u8], r: Register) -> Register
-    requires { (e : edge.Edge) → r ≡ Some e → 16 * e.node ≤ length s.now }
+    requires { (e : edge.Edge) → r ≡ Some e → HoldsNodes s.now e.node }
     ensures { result ≡ renumber_register (forwarded s.now) r }
 {
     let Edge { weight, node } = r?;
@@ -85,7 +85,7 @@ fn moved(s: &[u8], r: Register) -> Register
 
 // The registers with their nodes' new numbers.
 pub(crate) fn renumber(s: &[u8], count: NodeCount, mut registers: Registers) -> Registers
-    requires { (16 * count ≤ length s.now) × RegistersValid count registers.all }
+    requires { HoldsNodes s.now count × RegistersValid count registers.all }
     ensures { result.all ≡ renumber_registers (forwarded s.now) registers.all }
 {
     for r in registers.all.iter_mut() {

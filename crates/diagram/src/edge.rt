@@ -2,10 +2,13 @@
 ghost use Rattle.std.specs.Prelude.{◌≡◌, ◌≤◌, ◌<◌};
 ghost use Rattle.field.specs.Weight.{modulus};
 ghost use Rattle.diagram.specs.Tensor.{index_count};
-ghost use Rattle.diagram.specs.Edge.{IsMultiple, IsSum};
+ghost use Rattle.diagram.specs.Meaning.{Valid};
+ghost use Rattle.diagram.specs.Store.{Sound, level_of};
+ghost use Rattle.diagram.specs.Edge.{IsMultiple, IsSum, IsCofactor, CofactorRequires};
 ghost use Rattle.diagram.specs.Diagram.{IsSound, IsEdge, level, Fixable, Fixed};
 
 use crate::diagram::Diagram;
+use crate::make::State;
 use crate::node;
 use crate::node::{Edge, INDICES, Index, Weight};
 
@@ -35,33 +38,48 @@ pub(crate) fn added(a: Edge, b: Edge) -> Edge
     }
 }
 
+// The index of the edge's node; the number of indices for a constant.
+pub(crate) fn top(store: &[u8], s: State, a: Edge) -> Index
+    requires { Sound store.now s × Valid s.count a }
+    ensures { (result ≡ level_of store.now s a) × (result ≤ index_count) }
+{
+    if a.node == 0 {
+        return INDICES;
+    }
+    node::read(store, a.node).index
+}
+
+// a with the index k fixed.
+pub(crate) fn cofactor(store: &[u8], s: State, a: Edge, k: Index, high: bool) -> Edge
+    requires { Sound store.now s × CofactorRequires store.now s a k }
+    ensures { IsCofactor store.now s a k high result }
+{
+    if a.node == 0 {
+        return a;
+    }
+    let x = node::read(store, a.node);
+    if x.index != k {
+        return a;
+    }
+    if high {
+        return times(a.weight, x.high);
+    }
+    times(a.weight, x.low)
+}
+
+// The same for an edge of this diagram.
 impl<'a> Diagram<'a> {
-    // The index of the edge's node; the number of indices for a constant.
     pub(crate) fn top(&self, a: Edge) -> Index
         requires { IsSound self.now × IsEdge self.now a }
         ensures { (result ≡ level self.now a) × (result ≤ index_count) }
     {
-        if a.node == 0 {
-            return INDICES;
-        }
-        node::read(self.store, a.node).index
+        top(self.store, self.state, a)
     }
 
-    // a with the index k fixed.
     pub(crate) fn cofactor(&self, a: Edge, k: Index, high: bool) -> Edge
         requires { IsSound self.now × Fixable self.now a k }
         ensures { Fixed self.now a k high result }
     {
-        if a.node == 0 {
-            return a;
-        }
-        let x = node::read(self.store, a.node);
-        if x.index != k {
-            return a;
-        }
-        if high {
-            return times(a.weight, x.high);
-        }
-        times(a.weight, x.low)
+        cofactor(self.store, self.state, a, k, high)
     }
 }

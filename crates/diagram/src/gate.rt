@@ -1,10 +1,13 @@
 // The gates (document 01, "Gates").
-ghost use Rattle.std.specs.Prelude.{◌≡◌};
+ghost use Rattle.std.specs.Prelude.{◌≡◌, ◌^◌, ◌<◌, Some};
+ghost use Rattle.diagram.specs.Tensor.{masks, middle as middle_of};
 ghost use Rattle.diagram.specs.Gate.{numbers, matrix as matrix_of, shape as shape_of, first_qubit, second_qubit};
-ghost use Rattle.diagram.specs.Gate.{gate_number};
+ghost use Rattle.diagram.specs.Gate.{gate_number, AllBelowEight, middles as middles_of, printed};
 
+use crate::mask;
 use crate::matrices::GateNumber;
-use crate::node::Weight;
+use crate::node::{Mask, Weight};
+use std::fmt;
 
 // One of the qubits 0 to 7.
 pub type Qubit = usize;
@@ -106,6 +109,49 @@ impl Gate {
         match self.shape() {
             Shape::One(q) => q,
             Shape::Two(_, b) => b,
+        }
+    }
+}
+
+// As a session's line names it: "CX 0 1".
+impl fmt::Display for Gate {
+    ghost output = { λ g. Some (printed g) };
+
+    fn fmt<W: fmt::Write>(&self, f: &mut fmt::Formatter<W>) -> fmt::Result {
+        match self {
+            Gate::X(q) => write!(f, "X {q}"),
+            Gate::Y(q) => write!(f, "Y {q}"),
+            Gate::Z(q) => write!(f, "Z {q}"),
+            Gate::H(q) => write!(f, "H {q}"),
+            Gate::S(q) => write!(f, "S {q}"),
+            Gate::Sd(q) => write!(f, "SD {q}"),
+            Gate::T(q) => write!(f, "T {q}"),
+            Gate::Td(q) => write!(f, "TD {q}"),
+            Gate::Cx(a, b) => write!(f, "CX {a} {b}"),
+            Gate::Cz(a, b) => write!(f, "CZ {a} {b}"),
+            Gate::Sw(a, b) => write!(f, "SW {a} {b}"),
+        }
+    }
+}
+
+// The middle index of q, as a mask.
+#[tactic(auto, using(crate::specs::GateLaws::middle_below))]
+fn middle(q: Qubit) -> Mask
+    requires { q < 8 }
+    ensures { (result ≡ 2 ^ middle_of q) × (result < 8388608) }
+{
+    mask::power(3 * q + 1)
+}
+
+impl Shape {
+    // The middle indices of a gate's qubits, as a mask. (A gate's two qubits are different ones.)
+    pub fn middles(self) -> Mask
+        requires { AllBelowEight self }
+        ensures { (result ≡ middles_of self) × (result < masks) }
+    {
+        match self {
+            Shape::One(q) => middle(q),
+            Shape::Two(a, b) => middle(a) + middle(b),
         }
     }
 }

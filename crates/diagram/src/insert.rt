@@ -1,8 +1,8 @@
 // Nodes into the unique table: one more, and all of them anew.
-ghost use Rattle.std.specs.Prelude.{◌≡◌, ◌+◌, ◌*◌, ◌≤◌, ◌<◌, length};
-ghost use Rattle.diagram.specs.Node.{RecordWithin, NodeFits};
+ghost use Rattle.std.specs.Prelude.{◌≡◌, ◌+◌, ◌<◌};
+ghost use Rattle.diagram.specs.Node.{RecordWithin, NodeFits, HoldsNodes};
 ghost use Rattle.diagram.specs.Table.{TableSound};
-ghost use Rattle.diagram.specs.Insert.{link_node, TableFits, AppendEnsures, ClearEnsures, RebuildEnsures};
+ghost use Rattle.diagram.specs.Insert.{link_node, TableFits, AppendEnsures, RebuildEnsures};
 
 use crate::make::BucketCount;
 use crate::node::{Node, NodeCount, NodeNumber};
@@ -30,22 +30,12 @@ pub(crate) fn append(s: &mut [u8], count: NodeCount, buckets: BucketCount, x: No
     link(s, buckets, n);
 }
 
-// Empties the buckets.
-fn clear(s: &mut [u8], buckets: BucketCount)
-    requires { 16 * buckets ≤ length s.old }
-    ensures { ClearEnsures s.old s.new buckets }
-{
-    for b in 0..buckets {
-        fields::set(s, 4, b, 0);
-    }
-}
-
 // Makes the table anew, whatever the heads and nexts are.
 pub(crate) fn rebuild(s: &mut [u8], count: NodeCount, buckets: BucketCount)
-    requires { (16 * count ≤ length s.old) × TableFits s.old count buckets }
+    requires { HoldsNodes s.old count × TableFits s.old count buckets }
     ensures { RebuildEnsures s.old s.new count buckets }
 {
-    clear(s, buckets);
+    fields::clear(s, 4, buckets);
     for m in 0..count {
         link(s, buckets, m + 1);
     }

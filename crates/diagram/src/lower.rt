@@ -3,6 +3,8 @@ ghost use Rattle.std.specs.Prelude.{◌≡◌, false, ◌<◌};
 ghost use Rattle.diagram.specs.Tensor.{bits, index_count, masks};
 ghost use Rattle.diagram.specs.Tally.{low, join as joins};
 ghost use Rattle.diagram.specs.Lows.{lower_in, lows as lows_of, clash as clashes};
+ghost use Rattle.diagram.specs.Meaning.{Valid};
+ghost use Rattle.diagram.specs.Store.{Sound, tensor_of};
 ghost use Rattle.diagram.specs.Operation.{high_step};
 ghost use Rattle.diagram.specs.Lower.{lows_first};
 ghost use Rattle.diagram.specs.Diagram.{IsSound, IsEdge, tensor, Ready, HighReady, KeepsLoans, DoesCached};
@@ -10,8 +12,20 @@ ghost use Rattle.diagram.specs.Diagram.{MayLower, MayLowerSet, Lowers};
 
 use crate::cache::{Key, Op};
 use crate::diagram::{Diagram, Full};
+use crate::make::State;
 use crate::node::{Edge, Index, Mask};
-use crate::{cache, edge, mask};
+use crate::{cache, edge, mask, support};
+
+// Is there an index k of m that is not free to go, since a depends on k - 1, and k - 1 is not in m (refusal 7)?
+pub fn clash(store: &[u8], s: State, a: Edge, m: Mask) -> bool
+    requires { Sound store.now s × (Valid s.count a × (m < masks)) }
+    ensures { result ≡ clashes (bits m) (tensor_of store.now s a) }
+{
+    let u = support::support(store, s, a);
+    // Of the indices before those of m, the ones on which a depends: each has to be in m too.
+    let taken = (m >> 1) & u;
+    taken & m != taken
+}
 
 impl<'a> Diagram<'a> {
     // Index k is renamed k - 1: the set that has k alone.
@@ -23,15 +37,12 @@ impl<'a> Diagram<'a> {
         self.lows(a, mask::power(k))
     }
 
-    // Is there an index k of m that is not free to go, since a depends on k - 1, and k - 1 is not in m (refusal 7)?
+    // Does an index of m clash, for an edge of this diagram?
     pub fn clash(&self, a: Edge, m: Mask) -> bool
         requires { IsSound self.now × (IsEdge self.now a × (m < masks)) }
         ensures { result ≡ clashes (bits m) (tensor self.now a) }
     {
-        let u = self.support(a);
-        // Of the indices before those of m, the ones on which a depends: each has to be in m too.
-        let taken = (m >> 1) & u;
-        taken & m != taken
+        clash(self.store, self.state, a, m)
     }
 
     // Every index k of m is renamed k - 1, all at the same moment.

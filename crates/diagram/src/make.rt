@@ -18,6 +18,15 @@ pub struct State {
     pub buckets: BucketCount,
 }
 
+impl State {
+    // No nodes, in one bucket, and the first epoch.
+    pub const EMPTY: State = State {
+        count: 0,
+        epoch: 1,
+        buckets: 1,
+    };
+}
+
 impl<'a> Diagram<'a> {
     // The number of the node x.
     pub(crate) fn make(&mut self, x: Node) -> Result<NodeNumber, Full>

@@ -1,8 +1,8 @@
 // Marks what the marked nodes lead to. Field 5 of a node's record holds its mark.
-ghost use Rattle.std.specs.Prelude.{◌≡◌, ◌*◌, ◌≤◌, length, Some};
-ghost use Rattle.diagram.specs.Node.{RecordWithin, node_at};
+ghost use Rattle.std.specs.Prelude.{◌≡◌, ◌≤◌, Some};
+ghost use Rattle.diagram.specs.Node.{RecordWithin, node_at, HoldsNodes};
 ghost use Rattle.diagram.specs.Compact.{ChildrenWithin};
-ghost use Rattle.diagram.specs.Mark.{MarkEnsures, ChildrenBefore, MarkChildrenEnsures, SpreadEnsures, NoneMarked};
+ghost use Rattle.diagram.specs.Mark.{MarkEnsures, ChildrenBefore, MarkChildrenEnsures, SpreadEnsures};
 ghost use Rattle.diagram.specs.Mark.{RootEnsures, RootsEnsures, ReachEnsures};
 ghost use Rattle.diagram.specs.Registers.{edges_of, RegistersValid};
 ghost use Rattle.diagram.specs.declared.node.Edge.{Edge};
@@ -13,7 +13,7 @@ use crate::{fields, node};
 
 // Marks node c; 0 is no node.
 pub(crate) fn mark(s: &mut [u8], c: NodeNumber)
-    requires { 16 * c ≤ length s.old }
+    requires { HoldsNodes s.old c }
     ensures { MarkEnsures s.old s.new c }
 {
     if c == 0 {
@@ -37,7 +37,7 @@ fn mark_children(s: &mut [u8], count: NodeCount, n: NodeNumber)
 
 // Marks what the marked nodes of 1 .. count lead to.
 fn spread(s: &mut [u8], count: NodeCount)
-    requires { (16 * count ≤ length s.old) × ChildrenBefore (node_at s.old) count }
+    requires { HoldsNodes s.old count × ChildrenBefore (node_at s.old) count }
     ensures { SpreadEnsures s.old s.new count }
 {
     for n in (0..count).rev() {
@@ -45,19 +45,9 @@ fn spread(s: &mut [u8], count: NodeCount)
     }
 }
 
-// Takes the marks off nodes 1 .. count.
-fn unmark(s: &mut [u8], count: NodeCount)
-    requires { 16 * count ≤ length s.old }
-    ensures { NoneMarked s.old s.new count }
-{
-    for m in 0..count {
-        fields::set(s, 5, m, 0);
-    }
-}
-
 // Marks the node of a filled register.
 fn root(s: &mut [u8], r: Register)
-    requires { (e : Edge) → r ≡ Some e → 16 * e.node ≤ length s.old }
+    requires { (e : Edge) → r ≡ Some e → HoldsNodes s.old e.node }
     ensures { RootEnsures r s.old s.new }
 {
     if let Some(e) = r {
@@ -67,7 +57,7 @@ fn root(s: &mut [u8], r: Register)
 
 // Marks the nodes of the filled registers.
 fn roots(s: &mut [u8], count: NodeCount, registers: Registers)
-    requires { (16 * count ≤ length s.old) × RegistersValid count registers.all }
+    requires { HoldsNodes s.old count × RegistersValid count registers.all }
     ensures { RootsEnsures count registers.all s.old s.new }
 {
     for r in registers.all {
@@ -77,11 +67,11 @@ fn roots(s: &mut [u8], count: NodeCount, registers: Registers)
 
 // Marks what the filled registers lead to, and nothing else.
 pub(crate) fn reach(s: &mut [u8], count: NodeCount, registers: Registers)
-    requires { (16 * count ≤ length s.old) × (ChildrenBefore (node_at s.old) count × RegistersValid count
+    requires { HoldsNodes s.old count × (ChildrenBefore (node_at s.old) count × RegistersValid count
         registers.all) }
     ensures { ReachEnsures count (edges_of registers.all) s.old s.new }
 {
-    unmark(s, count);
+    fields::clear(s, 5, count);
     roots(s, count, registers);
     spread(s, count);
 }

@@ -18,9 +18,8 @@ impl<'a> Diagram<'a> {
         self.top(a).min(self.top(b))
     }
 
-    // The result that is remembered for a key, if one is. (Each operation recalls, works out and remembers in a
-    // function of its own: one for all would take the step as a closure, and functions that call each other can't be
-    // handed one.)
+    // The result that is remembered for a key, if one is. (Each operation looks up and remembers for itself: one
+    // function for all would take the step as a closure, at which each would write out its clauses all the same.)
     pub(crate) fn recall(&self, key: Key) -> Option<Edge>
         requires { KeyFits key }
         ensures { LookupEnsures self.now.cache.now self.now.state.epoch key result }

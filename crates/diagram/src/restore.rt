@@ -1,5 +1,6 @@
 // Starting with no nodes, and coming back from a call that was refused.
-ghost use Rattle.std.specs.Prelude.{◌≡◌, ◌*◌, ◌≤◌, length};
+ghost use Rattle.std.specs.Prelude.{◌≡◌, ◌≤◌, length};
+ghost use Rattle.diagram.specs.Node.{HoldsNodes};
 ghost use Rattle.diagram.specs.Insert.{TableFits};
 ghost use Rattle.diagram.specs.Restore.{RebuiltOrNoRoom, StartEnsures, RollbackRequires, RollbackEnsures};
 ghost use Rattle.diagram.specs.Diagram.{KeepsLoans};
@@ -11,7 +12,7 @@ use crate::{cache, insert};
 
 // The unique table made anew, where the store has room for one.
 fn remake(store: &mut [u8], count: NodeCount, buckets: BucketCount)
-    requires { (16 * count ≤ length store.old) × (16 ≤ length store.old → TableFits store.old count buckets) }
+    requires { HoldsNodes store.old count × (16 ≤ length store.old → TableFits store.old count buckets) }
     ensures { RebuiltOrNoRoom store.old store.new count buckets }
 {
     if 16 <= store.len() {
@@ -25,15 +26,10 @@ impl<'a> Diagram<'a> {
         ensures store { (result.store.ghost_name ≡ store.entry.ghost_name) × (result.store.now ≡ store.old) }
         ensures cache { result.cache.ghost_name ≡ cache.entry.ghost_name }
     {
-        let state = State {
-            count: 0,
-            buckets: 1,
-            epoch: 1,
-        };
         Diagram {
             store,
             cache,
-            state,
+            state: State::EMPTY,
         }
     }
 
@@ -44,11 +40,7 @@ impl<'a> Diagram<'a> {
     {
         cache::clear(self.cache);
         remake(self.store, 0, 1);
-        self.state = State {
-            count: 0,
-            buckets: 1,
-            epoch: 1,
-        };
+        self.state = State::EMPTY;
     }
 
     // The nodes of `before` again, where a refused call has left more.

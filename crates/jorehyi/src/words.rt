@@ -1,4 +1,5 @@
-// A result as words at the front of a lent slice.
+// A result as words at the front of a lent slice. (The words go to places in it: no heap, and the C interface says
+// which word stands where.)
 ghost use Rattle.std.specs.Prelude.{◌≡◌, ◌∷◌, [], ◌+◌, ◌≤◌, length};
 ghost use Rattle.text.specs.Print.{written, WriteEnsures};
 ghost use Rattle.jorehyi.specs.Words.{register_words, registers_words, session_words, verdict_words};

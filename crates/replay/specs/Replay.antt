@@ -1,13 +1,12 @@
 -- What holds between two calls of a replay, and what its calls ask.
-use Rattle.std.specs.Prelude.{List, ℕ, ◌<◌, Result, MatchResult, Some, set}
-use Rattle.diagram.specs.Gate.{first_qubit_on, second_qubit_on}
+use Rattle.std.specs.Prelude.{List, ℕ, Result, MatchResult, Some, set}
 use Rattle.diagram.specs.Registers.{Register, empty_register, RegistersValid}
 use Rattle.diagram.specs.Restore.{RollbackRequires}
 use Rattle.diagram.specs.Invariant.{Invariant}
 use Rattle.diagram.specs.Diagram.{IsSound}
 use Rattle.diagram.specs.declared.node.Edge.{Edge}
 use Rattle.diagram.specs.declared.make.State.{State}
-use Rattle.diagram.specs.declared.gate.Shape.{Shape}
+use Rattle.diagram.specs.declared.diagram.Diagram.{Diagram}
 use Rattle.diagram.specs.declared.diagram.Full.{Full}
 use Rattle.replay.specs.declared.calls.Replay.{Replay}
 
@@ -27,13 +26,8 @@ abbrev pub MaySettleIn : List ℕ → List ℕ → State → State → List Regi
 MaySettleIn c s t st rs m = MatchResult m (λ e. (i : ℕ) → Invariant c s t (set rs i (Some e)))
     (λ _. RollbackRequires c s st × RegistersValid st.count rs)
 
-abbrev pub MaySettle : Replay → State → Result Edge Full → Type 0
-MaySettle r st m = MaySettleIn r.diagram.cache.now r.diagram.store.now r.diagram.state st r.registers.all m
-
--- "Qubit q (0 to 7)": a gate's qubit, or its two
-pub record AllBelowEight (x : Shape) : Type 0 where
-  pub one : first_qubit_on x < 8
-  pub two : second_qubit_on x < 8
+abbrev pub MaySet : Replay → Diagram → Result Edge Full → Type 0
+MaySet r d m = MaySettleIn d.cache.now d.store.now d.state r.diagram.state r.registers.all m
 
 -- registers 0, 1 and 2 emptied, with which the second part of the replay starts
 abbrev pub cleared : List Register → List Register

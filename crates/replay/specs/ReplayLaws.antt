@@ -1,20 +1,22 @@
--- A step may be settled; emptied registers; the masks of middles.
-use Rattle.std.specs.Prelude.{◌≡◌, refl, List, ℕ, ◌+◌, ◌*◌, ◌^◌, ◌%◌, ◌<◌, Result, Ok, Err}
-use Rattle.std.proofs.Common.{arith}
-use Rattle.std.proofs.Math.Pow.{pow-lt}
+-- A step may be settled; emptied registers.
+use Rattle.std.specs.Prelude.{◌≡◌, refl, List, ℕ, Result, Ok, Err, Some, set}
+use Rattle.std.proofs.Common.{subst}
+use Rattle.diagram.specs.Restore.{RollbackRequires}
 use Rattle.diagram.specs.Tally.{Step}
 use Rattle.diagram.specs.Tensor.{indices}
 use Rattle.diagram.specs.Store.{Refines}
 use Rattle.diagram.specs.Operation.{RefinesCached}
-use Rattle.diagram.specs.MaskLaws.{one_shl}
 use Rattle.diagram.specs.Invariant.{Invariant}
 use Rattle.diagram.specs.InvariantLaws.{invariant_clear, invariant_cached, invariant_refines}
 use Rattle.diagram.specs.InvariantLaws.{cached_rollback, refines_rollback}
-use Rattle.diagram.specs.Registers.{Register}
+use Rattle.diagram.specs.Registers.{Register, RegistersValid}
 use Rattle.diagram.specs.declared.node.Edge.{Edge}
 use Rattle.diagram.specs.declared.make.State.{State}
 use Rattle.diagram.specs.declared.diagram.Full.{Full}
-use Rattle.replay.specs.Replay.{cleared, MaySettleIn}
+use Rattle.diagram.specs.Diagram.{Does, DoesCached, KeepsCache}
+use Rattle.diagram.specs.declared.diagram.Diagram.{Diagram}
+use Rattle.replay.specs.declared.calls.Replay.{Replay}
+use Rattle.replay.specs.Replay.{IsReplay, cleared, MaySettleIn, MaySet}
 
 -- a step that remembers its results, and one that leaves the cache alone
 
@@ -33,10 +35,24 @@ pub invariant_cleared : {c s : List ℕ} {st : State} {rs rs' : List Register}
     → Invariant c s st rs → rs' ≡ cleared rs → Invariant c s st rs'
 invariant_cleared p q = invariant_clear 2 (invariant_clear 1 (invariant_clear 0 p refl) refl) q
 
--- 2 to the middle index
+-- the same of the diagram that a step is lent, and of what it leaves there
 
-pub middle_is : (q : ℕ) → q < 8 → (1 * 2 ^ (3 * q + 1)) % 2 ^ 64 ≡ 2 ^ (3 * q + 1)
-middle_is q p = one_shl (3 * q + 1) (omega arith)
+pub sets_cached : (f : Step indices) (m : Result Edge Full) {r : Replay} {d d' t : Diagram} → IsReplay r
+    → d ≡ r.diagram → d' ≡ t → DoesCached d d' f m → MaySet r t m
+sets_cached f m {r} p q e h = rw (← e) (settles_cached m p (rw q at h))
 
-pub middle_small : (q : ℕ) → q < 8 → (1 * 2 ^ (3 * q + 1)) % 2 ^ 64 < 8388608
-middle_small q p = rw (middle_is q p) (pow-lt {i = 3 * q + 1} {j = 23} (omega arith))
+pub sets_step : (f : Step indices) (m : Result Edge Full) {r : Replay} {d d' t : Diagram} → IsReplay r
+    → d ≡ r.diagram → d' ≡ t → KeepsCache d d' → Does d d' f m → MaySet r t m
+sets_step f m {r} {d} {d'} p q e k h =
+    rw (← e) (settles_step d'.store.now d'.state f m p (rw q at k.same_words) (rw q at h))
+
+-- what a step leaves, where it was done and where it did not fit
+
+pub settled : {c s : List ℕ} {t : State} (st : State) (rs : List Register) {rs' : List Register} (i : ℕ)
+    (m : Result Edge Full) {e : Edge} → MaySettleIn c s t st rs m → m ≡ Ok e → rs' ≡ set rs i (Some e)
+    → Invariant c s t rs'
+settled {c} {s} {t} st rs i m h q r = rw r (subst (MaySettleIn c s t st rs) q h i)
+
+pub settled_full : {c s : List ℕ} (t : State) {st : State} (rs : List Register) (m : Result Edge Full) {x : Full}
+    → MaySettleIn c s t st rs m → m ≡ Err x → RollbackRequires c s st × RegistersValid st.count rs
+settled_full {c} {s} t {st} rs m h q = subst (MaySettleIn c s t st rs) q h

@@ -1,13 +1,16 @@
 // The session calls that the program makes. A call that does not fit says so and leaves nothing.
-ghost use Rattle.std.specs.Prelude.{◌≤◌, ◌<◌};
+ghost use Rattle.std.specs.Prelude.{◌≤◌, ◌<◌, Result};
+ghost use Rattle.std.specs.Fn.{FnOnceTakesAtMut, FnOnceReturnsAtMut};
 ghost use Rattle.diagram.specs.Tensor.{masks};
 ghost use Rattle.diagram.specs.Entry.{QubitsInRange};
 ghost use Rattle.diagram.specs.Diagram.{IsEdge, MayLower};
-ghost use Rattle.replay.specs.Replay.{IsReplay, MaySettle};
+ghost use Rattle.diagram.specs.declared.node.Edge as edge;
+ghost use Rattle.diagram.specs.declared.diagram.Diagram as diagrams;
+ghost use Rattle.diagram.specs.declared.diagram.Full as full;
+ghost use Rattle.replay.specs.Replay.{IsReplay, MaySet};
 
 use diagram::diagram::{Diagram, Full};
 use diagram::gate::{Gate, QubitCount};
-use diagram::make::State;
 use diagram::node::{Edge, Index, Mask};
 use diagram::registers::{RegisterNumber, Registers};
 use std::io::Stdout;
@@ -35,11 +38,15 @@ impl<'a> Replay<'a> {
     }
 
     // Register d is set to the edge of a step; or the step did not fit, and the nodes are those before it.
-    fn settle(&mut self, before: State, d: RegisterNumber, step: Result<Edge, Full>)
-        requires { MaySettle self.old before step × (d < 16) }
+    fn set<F: FnOnce(&mut Diagram<'a>) -> Result<Edge, Full>>(&mut self, d: RegisterNumber, step: F)
+        requires ready { IsReplay self.old × (d < 16) }
+        requires takes { FnOnceTakesAtMut F.FnOnce step self.old.diagram }
+        requires gives { (m : Result edge.Edge full.Full) (t : diagrams.Diagram) →
+            FnOnceReturnsAtMut F.FnOnce step self.old.diagram m t → MaySet self.old t m }
         ensures { IsReplay self.new }
     {
-        match step {
+        let before = self.diagram.state;
+        match step(&mut self.diagram) {
             Ok(e) => self.registers.put(d, e),
             Err(_) => {
                 println!(self.stdout; "full").unwrap_or(());
@@ -53,9 +60,7 @@ impl<'a> Replay<'a> {
         requires { IsReplay self.old × (QubitsInRange g × (d < 16)) }
         ensures { IsReplay self.new }
     {
-        let before = self.diagram.state;
-        let step = self.diagram.gate(g);
-        self.settle(before, d, step);
+        self.set(d, |diagram| diagram.gate(g));
     }
 
     // Register d is the product of two edges, added over the indices of m.
@@ -64,9 +69,7 @@ impl<'a> Replay<'a> {
             (IsEdge self.old.diagram a × (IsEdge self.old.diagram b × ((d < 16) × (m < masks)))) }
         ensures { IsReplay self.new }
     {
-        let before = self.diagram.state;
-        let step = self.diagram.contract(a, b, m);
-        self.settle(before, d, step);
+        self.set(d, |diagram| diagram.contract(a, b, m));
     }
 
     // Register d is the product of registers 0 and 1, if they are filled.
@@ -91,24 +94,12 @@ impl<'a> Replay<'a> {
         self.registers = self.diagram.collect(self.registers);
     }
 
-    // A collection, or nothing.
-    pub fn tidy(&mut self, collecting: bool)
-        requires { IsReplay self.old }
-        ensures { IsReplay self.new }
-    {
-        if collecting {
-            self.collect();
-        }
-    }
-
     // Register 0 is the unit on n qubits.
     pub fn unit(&mut self, n: QubitCount)
         requires { IsReplay self.old × (n ≤ 8) }
         ensures { IsReplay self.new }
     {
-        let before = self.diagram.state;
-        let step = self.diagram.unit(n);
-        self.settle(before, 0, step);
+        self.set(0, |diagram| diagram.unit(n));
     }
 
     // Register 0 is an edge's tensor with index k renamed k - 1.
@@ -116,9 +107,7 @@ impl<'a> Replay<'a> {
         requires { IsReplay self.old × (IsEdge self.old.diagram a × MayLower self.old.diagram a k) }
         ensures { IsReplay self.new }
     {
-        let before = self.diagram.state;
-        let step = self.diagram.lower(a, k);
-        self.settle(before, 0, step);
+        self.set(0, |diagram| diagram.lower(a, k));
     }
 
     // The same for what register 0 holds, where that does not depend on k - 1.

@@ -1,34 +1,15 @@
 // An 8-qubit circuit, gate after gate as document 01's verdicts run them: the gate is contracted with what register 0
 // holds over the middles of its qubits, their fresh indices become the middles, and a collection follows. The count of
 // the nodes is printed each time.
-ghost use Rattle.std.specs.Prelude.{◌≡◌, ◌+◌, ◌*◌, ◌^◌, ◌<◌};
+ghost use Rattle.std.specs.Prelude.{◌<◌};
 ghost use Rattle.diagram.specs.Tensor.{masks};
 ghost use Rattle.diagram.specs.Entry.{QubitsInRange};
-ghost use Rattle.replay.specs.Replay.{IsReplay, AllBelowEight};
+ghost use Rattle.diagram.specs.Gate.{AllBelowEight};
+ghost use Rattle.replay.specs.Replay.{IsReplay};
 
 use crate::calls::Replay;
 use diagram::gate::{Gate, Qubit, Shape};
 use diagram::node::Mask;
-
-// The middle of q, as a mask.
-pub fn middle(q: Qubit) -> Mask
-    requires { q < 8 }
-    ensures { (result ≡ 2 ^ (3 * q + 1)) × (result < 8388608) }
-{
-    let k = 3 * q + 1;
-    1 << k
-}
-
-// The middles of a gate's qubits, which are two different ones.
-fn middles(qubits: Shape) -> Mask
-    requires { AllBelowEight qubits }
-    ensures { result < masks }
-{
-    match qubits {
-        Shape::One(q) => middle(q),
-        Shape::Two(p, q) => middle(p) + middle(q),
-    }
-}
 
 impl<'a> Replay<'a> {
     // The gate, contracted over the indices of m; register 1 has held it.
@@ -70,7 +51,7 @@ impl<'a> Replay<'a> {
         ensures { IsReplay self.new }
     {
         let qubits = g.shape();
-        self.contract_gate(g, middles(qubits));
+        self.contract_gate(g, qubits.middles());
         self.rename_all(qubits);
         self.collect();
         self.count();

@@ -22,8 +22,7 @@ ghost use Rattle.diagram.specs.Entry.{QubitsInRange};
 ghost use Rattle.replay.specs.Replay.{cleared, IsReplay, MayRead};
 
 use calls::Replay;
-use circuit::middle;
-use diagram::gate::Gate;
+use diagram::gate::{Gate, Shape};
 use diagram::registers::Registers;
 
 // Empties the three registers.
@@ -43,7 +42,7 @@ impl<'a> Replay<'a> {
     {
         self.gate(0, g);
         self.gate(1, h);
-        self.cont(2, middle(0));
+        self.cont(2, Shape::One(0).middles());
     }
 
     // The gates, their product and the count of the nodes.
@@ -56,24 +55,39 @@ impl<'a> Replay<'a> {
         self.count();
     }
 
-    // The second pair of gates, after the first is dropped.
-    fn again(&mut self, collecting: bool)
+    // The first pair of gates, which is then dropped.
+    fn first_pair(&mut self)
+        requires { IsReplay self.old }
+        ensures { IsReplay self.new }
+    {
+        self.product(Gate::Z(0), Gate::S(0));
+        self.report();
+        forget(&mut self.registers);
+    }
+
+    fn second_pair(&mut self)
         requires { IsReplay self.old }
     {
-        forget(&mut self.registers);
-        self.tidy(collecting);
         self.count();
         self.product(Gate::X(0), Gate::Y(0));
         self.report();
     }
 
-    // Both pairs of gates, with a collection between them or without one.
-    fn products(&mut self, collecting: bool)
+    // Both pairs, with a collection between them.
+    fn collected(&mut self)
         requires { IsReplay self.old }
     {
-        self.product(Gate::Z(0), Gate::S(0));
-        self.report();
-        self.again(collecting);
+        self.first_pair();
+        self.collect();
+        self.second_pair();
+    }
+
+    // Both pairs, without one.
+    fn uncollected(&mut self)
+        requires { IsReplay self.old }
+    {
+        self.first_pair();
+        self.second_pair();
     }
 }
 
@@ -81,7 +95,7 @@ fn main(rt: HostRuntime) {
     let stdout = rt.stdout();
     let mut store = [0u8; 32768];
     let mut cache = [0u64; 256];
-    Replay::start(stdout, &mut store, &mut cache).products(true);
-    Replay::start(stdout, &mut store, &mut cache).products(false);
+    Replay::start(stdout, &mut store, &mut cache).collected();
+    Replay::start(stdout, &mut store, &mut cache).uncollected();
     Replay::start(stdout, &mut store, &mut cache).circuit();
 }

@@ -12,12 +12,8 @@ const OUTPUT: usize = 4096;
 
 // The first line, and the text after it.
 fn parts(text: &[u8]) -> Option<(Header, &[u8])> {
-    let e = split::end(text, 0, b'\n');
-    if e == text.len() {
-        return None;
-    }
-    let header = header::read(&text[..e])?;
-    Some((header, &text[e + 1..]))
+    let (line, rest) = split::first_line(text)?;
+    Some((header::read(line)?, rest))
 }
 
 // What the session prints, and how it ended. What cannot be written is left out, here and below.

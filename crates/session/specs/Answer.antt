@@ -1,5 +1,5 @@
 -- What answering one line of a session asks for and promises.
-use Rattle.std.specs.Prelude.{◌≡◌, ◌≢◌, List, [], ◌∷◌, ℕ, ◌≤◌, length, take}
+use Rattle.std.specs.Prelude.{◌≡◌, ◌≢◌, Bool, List, [], ◌∷◌, ℕ, ◌≤◌, length, take}
 use Rattle.diagram.specs.Tensor.{indices}
 use Rattle.diagram.specs.Node.{capacity}
 use Rattle.text.specs.Text.{Bytes, LF}
@@ -22,18 +22,20 @@ pub record Memory : Type 0 where
 abbrev pub memory : Bytes → List ℕ → List ℕ → Memory
 memory line c s = record { line = line; cache = c; store = s }
 
--- the line that has come so far, and what the engine holds after the lines before it
+-- the line that has come so far; what the engine holds after the lines before it, and what the writes of their answers
+-- have said
 pub record SessionState : Type 0 where
   pub squeeze : Squeeze
   pub engine : Contents
+  pub outcomes : List Bool
 
 -- the memory that a session works in
 abbrev pub memory_of : Session → Memory
 memory_of t = memory t.line.now t.engine.now.diagram.now.cache.now t.engine.now.diagram.now.store.now
 
--- where a session stands
-abbrev pub state_of : Session → SessionState
-state_of t = record { squeeze = t.squeeze; engine = contents t.engine.now }
+-- where a session stands, after writes that said this
+abbrev pub state_of : Session → List Bool → SessionState
+state_of t o = record { squeeze = t.squeeze; engine = contents t.engine.now; outcomes = o }
 
 -- the memory is the one that the session was lent
 pub record KeepsSession (t t' : Session) : Type 0 where

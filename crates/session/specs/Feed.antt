@@ -1,6 +1,6 @@
 -- What taking in bytes promises: the input's lines are run, but for the bytes after its last LF; after the first answer
 -- that could not be written none is.
-use Rattle.std.specs.Prelude.{◌≡◌, List, ◌++◌, ℕ, ◌+◌, ◌≤◌, ◌<◌, length, ⊤, Result, Ok, Err}
+use Rattle.std.specs.Prelude.{◌≡◌, Bool, List, ◌++◌, ℕ, ◌+◌, ◌≤◌, ◌<◌, length, ⊤, Result, Ok, Err}
 use Rattle.diagram.specs.Node.{capacity}
 use Rattle.text.specs.Text.{Bytes, lines}
 use Rattle.text.specs.Session.{at_most, empty_run, run}
@@ -8,7 +8,8 @@ use Rattle.text.specs.Squeeze.{SqueezeInvariant}
 use Rattle.text.specs.Engine.{Contents, tally_of, EngineInvariant}
 use Rattle.text.specs.declared.squeeze.Squeeze.{Squeeze}
 use Rattle.session.specs.Answer.{Memory, SessionState, AnswerRequires, NoLf}
-use Rattle.session.specs.declared.answer.WriteFailed.{WriteFailed}
+use Rattle.session.specs.Output.{all_written, NoneLost, LastLost, OneWriteEach}
+use Rattle.session.specs.declared.output.WriteFailed.{WriteFailed}
 use Rattle.text.specs.Limits.{answer_room}
 
 -- The engine is where the tally's own run of these lines ends, over every output that has room for their answers:
@@ -43,15 +44,18 @@ pub record PartialLine (seen line : Bytes) (q : Squeeze) : Type 0 where
   pub unbroken : NoLf seen
   pub squeezing : SqueezeInvariant seen line q
 
-abbrev pub FeedRequires : Memory → SessionState → Type 0
-FeedRequires m h = AnswerRequires m h.squeeze h.engine
+-- a session that goes on: no write has failed
+pub record FeedRequires (m : Memory) (h : SessionState) : Type 0 where
+  pub line : AnswerRequires m h.squeeze h.engine
+  pub none_lost : NoneLost h.outcomes
 
--- What holds between two bytes: a text was taken in, and n of its lines were run. What is behind them is the line that
--- has not ended.
+-- What holds between two bytes: a text was taken in, and n of its lines were run, each with one write, which succeeded.
+-- What is behind them is the line that has not ended.
 pub record FeedInvariant (text : Bytes) (n : ℕ) (m : Memory) (h : SessionState) : Type 0 where
   pub requires : FeedRequires m h
   pub to : AfterLinesBefore text m.store h.engine
   pub count : length to.done ≡ n
+  pub written : h.outcomes ≡ all_written n
   pub seen : PartialLine to.behind m.line h.squeeze
 
 -- .. and after more bytes.
@@ -60,15 +64,17 @@ pub record FeedProgress (text : Bytes) (n : ℕ) (m' : Memory) (h' : SessionStat
   pub invariant : FeedInvariant text lines m' h'
   pub more : n ≤ lines
 
--- The line whose answer could not be written was run, and none after it.
-pub record FeedLost (text : Bytes) (n : ℕ) (m' : Memory) (e' : Contents) : Type 0 where
-  pub invariant : EngineInvariant m'.cache m'.store e'
-  pub to : AfterLinesBefore text m'.store e'
+-- The line whose answer could not be written was run, and none after it: each line that was run has had one write, and
+-- the last one's alone failed.
+pub record FeedLost (text : Bytes) (n : ℕ) (m' : Memory) (h' : SessionState) : Type 0 where
+  pub invariant : EngineInvariant m'.cache m'.store h'.engine
+  pub to : AfterLinesBefore text m'.store h'.engine
   pub lost : n < length to.done
+  pub written : LastLost (length to.done) h'.outcomes
 
 abbrev pub FeedOutcome : Bytes → ℕ → Memory → SessionState → Result ⊤ WriteFailed → Type 0
 FeedOutcome text n m' h' (Ok _) = FeedProgress text n m' h'
-FeedOutcome text n m' h' (Err _) = FeedLost text n m' h'.engine
+FeedOutcome text n m' h' (Err _) = FeedLost text n m' h'
 
 abbrev pub FeedFits : Memory → SessionState → Result ⊤ WriteFailed → Type 0
 FeedFits m' h' (Ok _) = FeedRequires m' h'
@@ -81,5 +87,7 @@ pub record FeedEnsures (part : Bytes) (m : Memory) (h : SessionState) (m' : Memo
   pub on : (text : Bytes) (n : ℕ) → FeedInvariant text n m h → FeedOutcome (text ++ part) n m' h' r
 
 -- The input has ended, and all its lines are run: "A text is split at LF; a last part without LF counts unless empty".
-pub record LastEnsures (m : Memory) (h : SessionState) (s' : List ℕ) (e' : Contents) : Type 0 where
+pub record LastEnsures (m : Memory) (h : SessionState) (s' : List ℕ) (e' : Contents) (o' : List Bool)
+    (r : Result ⊤ WriteFailed) : Type 0 where
   pub all : (text : Bytes) (n : ℕ) → FeedInvariant text n m h → AfterLines (lines text) s' e'
+  pub written : (text : Bytes) (n : ℕ) → FeedInvariant text n m h → OneWriteEach r (length (lines text)) o'

@@ -1,7 +1,7 @@
 -- Bytes taken in one after the other, and the input's last line.
 use Rattle.std.specs.Prelude.{◌≡◌, refl, ◌≢◌, Bool, true, false, cond, List, [], ◌∷◌, ◌++◌, ℕ, ◌+◌, ◌≤◌, ◌<◌, eqb}
 use Rattle.std.specs.Prelude.{length, take, drop, get_or, ⊤, Result, Ok, Err}
-use Rattle.std.proofs.Common.{sym, ◌∙◌, append-nil, append_assoc, add-one, arith, ne_eqb, le-leb, length-append}
+use Rattle.std.proofs.Common.{◌∙◌, append-nil, append_assoc, add-one, arith, ne_eqb, le-leb, length-append}
 use Rattle.std.proofs.Common.{take-suc, length-take-le, take-append-drop}
 use Rattle.diagram.specs.Node.{capacity}
 use Rattle.text.specs.Text.{Bytes, LF, tab, lines, parts, onto}
@@ -13,9 +13,11 @@ use Rattle.text.specs.SessionLaws.{run_append}
 use Rattle.text.specs.declared.squeeze.Squeeze.{Squeeze}
 use Rattle.session.specs.Answer.{Memory, memory, SessionState, NoLf, none, byte, reply_to, AnswerEnsures}
 use Rattle.session.specs.AnswerLaws.{line_first}
-use Rattle.session.specs.Feed.{AfterLines, AfterFirstLines, AfterLinesBefore, FeedRequires, FeedInvariant}
+use Rattle.session.specs.Feed.{AfterLines, AfterLinesBefore, FeedRequires, FeedInvariant}
 use Rattle.session.specs.Feed.{FeedEnsures, LastEnsures}
-use Rattle.session.specs.declared.answer.WriteFailed.{WriteFailed}
+use Rattle.session.specs.Output.{PutEnsures}
+use Rattle.session.specs.OutputLaws.{put_written, none_lost_more, put_lost, put_each}
+use Rattle.session.specs.declared.output.WriteFailed.{WriteFailed}
 use Rattle.text.specs.Limits.{answer_room}
 
 -- lines
@@ -109,11 +111,13 @@ line_ends {text = text} f k a =
     }
 
 module _ {line c s : List ℕ} {h : SessionState} where
-  pub feeds_end : {line' c' s' : List ℕ} {b : ℕ} {q : Squeeze} {e : Contents} → b ≡ LF
+  pub feeds_end : {line' c' s' : List ℕ} {b : ℕ} {q : Squeeze} {e : Contents} {o : List Bool} → b ≡ LF
       → length line' ≡ length line → length s' ≡ length s → FeedRequires (memory line c s) h
-      → AnswerEnsures (memory line c s) h.squeeze h.engine (memory line' c' s') e → NoneEnsures q
-      → FeedEnsures (b ∷ []) (memory line c s) h (memory line' c' s') (record { squeeze = q; engine = e }) (Ok tt)
-  feeds_end {line'} {c'} {s'} {b} {q} {e} z m k r a g = rw z (record {
+      → AnswerEnsures (memory line c s) h.squeeze h.engine (memory line' c' s') e → PutEnsures h.outcomes o (Ok tt)
+      → NoneEnsures q
+      → FeedEnsures (b ∷ []) (memory line c s) h (memory line' c' s')
+      (record { squeeze = q; engine = e; outcomes = o }) (Ok tt)
+  feeds_end {line'} {c'} {s'} {b} {q} {e} {o} z m k r a w g = rw z (record {
     fits = after;
     on = λ text n f. record {
       lines = n + 1;
@@ -121,30 +125,40 @@ module _ {line c s : List ℕ} {h : SessionState} where
         requires = after;
         to = line_ends f k a;
         count = length-append f.to.done (f.to.behind ∷ []) ∙ (rw f.count);
+        written = put_written n f.written w;
         seen = record { unbroken = none; squeezing = g.start line' };
       };
       more = omega arith;
     };
   })
     where
-      after : FeedRequires (memory line' c' s') (record { squeeze = q; engine = e })
-      after = record { room = omega (arith, r.room, m); fits = g.fits; invariant = a.invariant }
+      after : FeedRequires (memory line' c' s') (record { squeeze = q; engine = e; outcomes = o })
+      after = record {
+        line = record { room = omega (arith, r.line.room, m); fits = g.fits; invariant = a.invariant };
+        none_lost = none_lost_more r.none_lost w;
+      }
 
-  pub feeds_lost : {line' c' s' : List ℕ} {b : ℕ} {h' : SessionState} (w : WriteFailed) → b ≡ LF → length s' ≡ length s
+  pub feeds_lost : {line' c' s' : List ℕ} {b : ℕ} {h' : SessionState} (x : WriteFailed) → b ≡ LF → length s' ≡ length s
       → AnswerEnsures (memory line c s) h.squeeze h.engine (memory line' c' s') h'.engine
-      → FeedEnsures (b ∷ []) (memory line c s) h (memory line' c' s') h' (Err w)
-  feeds_lost w z k a = rw z (record {
+      → PutEnsures h.outcomes h'.outcomes (Err x)
+      → FeedEnsures (b ∷ []) (memory line c s) h (memory line' c' s') h' (Err x)
+  feeds_lost x z k a w = rw z (record {
     fits = a.invariant;
-    on = λ text n f. record {
-      invariant = a.invariant;
-      to = line_ends f k a;
-      lost = omega (arith, f.count, length-append f.to.done (f.to.behind ∷ []));
-    };
+    on = λ text n f.
+        let l : length (f.to.done ++ (f.to.behind ∷ [])) ≡ n + 1 =
+        length-append f.to.done (f.to.behind ∷ []) ∙ (rw f.count) in
+        record {
+          invariant = a.invariant;
+          to = line_ends f k a;
+          lost = omega (arith, l);
+          written = rw l (put_lost n f.written w);
+        };
   })
 
   pub feeds_byte : {line' : List ℕ} {b : ℕ} {q : Squeeze} → b ≢ LF
       → FeedRequires (memory line c s) h → PushEnsures line h.squeeze b line' q
-      → FeedEnsures (b ∷ []) (memory line c s) h (memory line' c s) (record { squeeze = q; engine = h.engine }) (Ok tt)
+      → FeedEnsures (b ∷ []) (memory line c s) h (memory line' c s)
+      (record { squeeze = q; engine = h.engine; outcomes = h.outcomes }) (Ok tt)
   feeds_byte {line'} {b} {q} z k p = record {
     fits = after;
     on = λ text n f. record {
@@ -153,14 +167,18 @@ module _ {line c s : List ℕ} {h : SessionState} where
         requires = after;
         to = before_more (b ∷ []) f.to;
         count = f.count;
+        written = f.written;
         seen = record { unbroken = no_LF_more f.seen.unbroken z; squeezing = p.on f.to.behind f.seen.squeezing };
       };
       more = omega arith;
     };
   }
     where
-      after : FeedRequires (memory line' c s) (record { squeeze = q; engine = h.engine })
-      after = record { room = omega (arith, k.room, p.room); fits = p.fits; invariant = k.invariant }
+      after : FeedRequires (memory line' c s) (record { squeeze = q; engine = h.engine; outcomes = h.outcomes })
+      after = record {
+        line = record { room = omega (arith, k.line.room, p.room); fits = p.fits; invariant = k.line.invariant };
+        none_lost = k.none_lost;
+      }
 
 -- the loop over a part
 
@@ -190,7 +208,7 @@ feeds_then {p} {q} (Err _) f g = record {
       let x = f.on text n v in
       let y = g.on (text ++ p) x.lines x.invariant in
       rw (← append_assoc text p q)
-      (record { invariant = y.invariant; to = y.to; lost = omega (arith, x.more, y.lost) });
+      (record { invariant = y.invariant; to = y.to; lost = omega (arith, x.more, y.lost); written = y.written });
 }
 
 -- bytes after an answer that could not be written
@@ -200,7 +218,8 @@ feeds_no_more {p} q f = record {
   fits = f.fits;
   on = λ text n v.
       let x = f.on text n v in
-      rw (← append_assoc text p q) (record { invariant = x.invariant; to = before_more q x.to; lost = x.lost });
+      rw (← append_assoc text p q)
+      (record { invariant = x.invariant; to = before_more q x.to; lost = x.lost; written = x.written });
 }
 
 module _ (part : Bytes) {m m' m'' : Memory} {h h' h'' : SessionState} {i : ℕ} (l : i < length part)
@@ -221,42 +240,45 @@ module _ (part : Bytes) {m m' m'' : Memory} {h h' h'' : SessionState} {i : ℕ} 
 
 -- the input's end
 
-pub first_before : {text : Bytes} {s : List ℕ} {e : Contents} → AfterLinesBefore text s e → AfterFirstLines text s e
-first_before {text} f = record {
-  done = f.done;
-  others = lines f.behind;
-  split = rw (append-nil text, append-nil f.behind) at (f.split []);
-  ran = f.ran;
-}
-
-pub first_all : {text : Bytes} {s : List ℕ} {e : Contents} → AfterLines (lines text) s e → AfterFirstLines text s e
-first_all {text} r = record { done = lines text; others = []; split = sym (append-nil (lines text)); ran = r }
-
 module _ {line c s : List ℕ} {h : SessionState} where
-  pub last_none : h.squeeze.length ≤ 0 → LastEnsures (memory line c s) h s h.engine
+  -- nothing is behind the lines that were run
+  pub last_none : h.squeeze.length ≤ 0 → LastEnsures (memory line c s) h s h.engine h.outcomes (Ok tt)
   last_none z = record {
-    all = λ text n f.
-        let v = f.seen in
-        let k : length (squeezed f.to.behind) ≤ 0 =
-        rw (← v.squeezing.kept) (omega (arith, length-take-le h.squeeze.length line (omega arith))) in
-        let e : lines text ≡ f.to.done =
-        (rw (append-nil text, append-nil f.to.behind, line_none f.to.behind k) at (f.to.split []))
-        ∙ append-nil f.to.done in
-        rw e f.to.ran;
+    all = λ text n f. rw (all_run text n f) f.to.ran;
+    written = λ text n f. rw (all_run text n f, f.count) f.written;
   }
+    where
+      all_run : (text : Bytes) (n : ℕ) (f : FeedInvariant text n (memory line c s) h) → lines text ≡ f.to.done
+      all_run text n f =
+          let v = f.seen in
+          let k : length (squeezed f.to.behind) ≤ 0 =
+          rw (← v.squeezing.kept) (omega (arith, length-take-le h.squeeze.length line (omega arith))) in
+          (rw (append-nil text, append-nil f.to.behind, line_none f.to.behind k) at (f.to.split []))
+          ∙ append-nil f.to.done
 
-  pub last_line : {line' c' s' : List ℕ} {e' : Contents} → 0 < h.squeeze.length
+  -- what is behind them is a line
+  last_lines : 0 < h.squeeze.length → FeedRequires (memory line c s) h → (text : Bytes) (n : ℕ)
+      → (f : FeedInvariant text n (memory line c s) h)
+      → lines text ≡ f.to.done ++ (f.to.behind ∷ [])
+  last_lines z k text n f =
+      let v = f.seen in
+      let q = k.line.fits in
+      let b : length (take h.squeeze.length line) ≡ h.squeeze.length =
+      length-take-le _ line (omega (arith, q.tabs, q.width, q.short, k.line.room)) in
+      let o : 0 < length (squeezed f.to.behind) = rw (← v.squeezing.kept) (omega arith) in
+      rw (append-nil text, append-nil f.to.behind, line_kept v.unbroken o) at (f.to.split [])
+
+  pub last_line : {line' c' s' : List ℕ} {e' : Contents} {o : List Bool} {r : Result ⊤ WriteFailed}
+      → 0 < h.squeeze.length
       → length s' ≡ length s → FeedRequires (memory line c s) h
-      → AnswerEnsures (memory line c s) h.squeeze h.engine (memory line' c' s') e'
-      → LastEnsures (memory line c s) h s' e'
-  last_line z n k a = record {
+      → AnswerEnsures (memory line c s) h.squeeze h.engine (memory line' c' s') e' → PutEnsures h.outcomes o r
+      → LastEnsures (memory line c s) h s' e' o r
+  last_line {r = r} z n k a w = record {
     all = λ text m f.
-        let v = f.seen in
-        let q = k.fits in
-        let b : length (take h.squeeze.length line) ≡ h.squeeze.length =
-        length-take-le _ line (omega (arith, q.tabs, q.width, q.short, k.room)) in
-        let o : 0 < length (squeezed f.to.behind) = rw (← v.squeezing.kept) (omega arith) in
-        let e : lines text ≡ f.to.done ++ (f.to.behind ∷ []) =
-        rw (append-nil text, append-nil f.to.behind, line_kept v.unbroken o) at (f.to.split []) in
-        rw e (after_more f.to.behind n f.to.ran (a.tally f.to.behind v.unbroken v.squeezing));
+        rw (last_lines z k text m f)
+        (after_more f.to.behind n f.to.ran (a.tally f.to.behind f.seen.unbroken f.seen.squeezing));
+    written = λ text m f.
+        let l : length (f.to.done ++ (f.to.behind ∷ [])) ≡ m + 1 =
+        length-append f.to.done (f.to.behind ∷ []) ∙ (rw f.count) in
+        rw (last_lines z k text m f, l) (put_each m f.written r w);
   }

@@ -6,7 +6,8 @@ use Rattle.stdin.specs.Star.{Star}
 use Rattle.text.specs.Text.{Bytes}
 use Rattle.session.specs.Answer.{Memory, SessionState}
 use Rattle.session.specs.Feed.{AfterLinesBefore, FeedInvariant, FeedEnsures}
-use Rattle.session.specs.declared.answer.WriteFailed.{WriteFailed}
+use Rattle.session.specs.Output.{LastLost}
+use Rattle.session.specs.declared.output.WriteFailed.{WriteFailed}
 use Rattle.session.specs.declared.outcome.Stopped.{Stopped}
 use Rattle.session.specs.declared.outcome.Stopped.TheVariants.{ReadFailed, WriteFailed as Unwritten}
 
@@ -55,11 +56,13 @@ pub record Reads (m₀ : Memory) (h₀ : SessionState) (m : Memory) (h : Session
   pub more : ReadsMore m₀ h₀ before
   pub last : LastRead before m h r
 
--- some input was taken in; where an answer could not be written, no line after its line was run
+-- some input was taken in; where an answer could not be written, no line after its line was run, and each line that was
+-- run has had one write
 abbrev pub Received : Bytes → Memory → SessionState → Result ⊤ Stopped → Type 0
 Received text m h (Ok _) = (lines : ℕ) × FeedInvariant text lines m h
 Received text m h (Err ReadFailed) = (lines : ℕ) × FeedInvariant text lines m h
-Received text m h (Err Unwritten) = AfterLinesBefore text m.store h.engine
+Received text m h (Err Unwritten) =
+    (a : AfterLinesBefore text m.store h.engine) × LastLost (length a.done) h.outcomes
 
 pub record ReceiveEnsures (m₀ : Memory) (h₀ : SessionState) (m : Memory) (h : SessionState)
     (r : Result ⊤ Stopped) : Type 0 where

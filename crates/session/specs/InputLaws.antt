@@ -1,5 +1,5 @@
 -- The loop over the input.
-use Rattle.std.specs.Prelude.{◌≡◌, refl, ◌≢◌, List, [], ◌++◌, ℕ, zero, suc, ◌≤◌, length, take, Ok, Err}
+use Rattle.std.specs.Prelude.{◌≡◌, refl, ◌≢◌, Bool, List, [], ◌++◌, ℕ, zero, suc, ◌≤◌, length, take, Ok, Err}
 use Rattle.std.proofs.Common.{subst}
 use Rattle.stdin.specs.Star.{none as noSteps, more}
 use Rattle.text.specs.Squeeze.{NoneEnsures}
@@ -13,13 +13,17 @@ use Rattle.session.specs.declared.outcome.Stopped.{Stopped}
 use Rattle.session.specs.declared.outcome.Stopped.TheVariants.{ReadFailed, WriteFailed as Unwritten}
 use Rattle.text.specs.Limits.{line_room}
 
-pub input_start : {m : Memory} {s₀ : List ℕ} {q : Squeeze} {e : Contents} → line_room ≤ length m.line → NoneEnsures q
-    → EngineStartEnsures m.cache s₀ m.store e
-    → FeedInvariant [] 0 m (record { squeeze = q; engine = e })
-input_start {m} h b a = record {
-  requires = record { room = h; fits = b.fits; invariant = a.invariant };
+pub input_start : {m : Memory} {s₀ : List ℕ} {q : Squeeze} {e : Contents} {o : List Bool} → line_room ≤ length m.line
+    → NoneEnsures q → EngineStartEnsures m.cache s₀ m.store e → o ≡ []
+    → FeedInvariant [] 0 m (record { squeeze = q; engine = e; outcomes = o })
+input_start {m} h b a p = record {
+  requires = record {
+    line = record { room = h; fits = b.fits; invariant = a.invariant };
+    none_lost = record { count = 0; is = p };
+  };
   to = record { done = []; behind = []; split = λ rest. refl; ran = after_none a };
   count = refl;
+  written = p;
   seen = record { unbroken = none; squeezing = b.start m.line };
 }
 
@@ -73,7 +77,7 @@ module _ {m₀ : Memory} {h₀ : SessionState} {m : Memory} {h : SessionState} (
       let x = w.1.feeds.on i.text i.lines i.invariant in
       record {
         text = i.text ++ take w.0 w.1.part;
-        received = x.to;
+        received = (x.to, x.written);
         reads = record { before = record { memory = m; state = h }; more = v.more; last = w };
       }
 

@@ -1,31 +1,50 @@
 -- How a session ends, by what was received and whether the last answer was written.
-use Rattle.std.specs.Prelude.{◌≡◌, refl, List, ℕ, ⊤, Result, Ok, Err}
-use Rattle.std.proofs.Common.{arith}
+use Rattle.std.specs.Prelude.{◌≡◌, refl, Bool, List, [], ℕ, length, ⊤, Result, Ok, Err}
+use Rattle.std.proofs.Common.{sym, append-nil, arith}
+use Rattle.text.specs.Text.{Bytes, lines}
 use Rattle.text.specs.Engine.{Contents}
 use Rattle.session.specs.Answer.{Memory, SessionState}
-use Rattle.session.specs.Feed.{LastEnsures}
-use Rattle.session.specs.FeedLaws.{first_all}
-use Rattle.session.specs.Outcome.{FinishEnsures}
+use Rattle.session.specs.Feed.{AfterLines, AfterLinesBefore, LastEnsures}
+use Rattle.session.specs.Output.{LastLost}
+use Rattle.session.specs.Outcome.{AfterInput, FinishEnsures}
+use Rattle.session.specs.declared.output.WriteFailed.{WriteFailed}
 use Rattle.session.specs.declared.outcome.Stopped.{Stopped}
 use Rattle.session.specs.declared.outcome.Stopped.TheVariants.{WriteFailed as Unwritten}
 
-module _ {m : Memory} {h : SessionState} {s' : List ℕ} {e' : Contents} {t : Result ⊤ Stopped} (p : t ≡ Ok tt)
-    (v : LastEnsures m h s' e') where
-  pub finish_complete : FinishEnsures m h t s' e' (Ok tt)
-  finish_complete = rw p (record {
-    on = v.all;
+-- the last line that was run is the one whose answer could not be written
+module _ {text : Bytes} {s : List ℕ} {e : Contents} {o : List Bool} where
+  pub lost_before : (a : AfterLinesBefore text s e) → LastLost (length a.done) o → AfterInput (Err Unwritten) text s e o
+  lost_before a w = (
+    record {
+      done = a.done;
+      others = lines a.behind;
+      split = rw (append-nil text, append-nil a.behind) at (a.split []);
+      ran = a.ran;
+    },
+    w,
+  )
+
+  pub lost_last : AfterLines (lines text) s e → LastLost (length (lines text)) o → AfterInput (Err Unwritten) text s e o
+  lost_last r w = (record { done = lines text; others = []; split = sym (append-nil (lines text)); ran = r }, w)
+
+module _ {m : Memory} {h : SessionState} {s' : List ℕ} {e' : Contents} {o' : List Bool} {t : Result ⊤ Stopped}
+    (p : t ≡ Ok tt) where
+  pub finish_complete : LastEnsures m h s' e' o' (Ok tt) → FinishEnsures m h t s' e' o' (Ok tt)
+  finish_complete v = rw p (record {
+    on = λ text n f. (v.all text n f, v.written text n f);
     all = v.all;
     read = λ q. let i : ◌≡◌ {A = ℕ} 0 1 = cc in omega arith;
   })
 
-  pub finish_unwritten : FinishEnsures m h t s' e' (Err Unwritten)
-  finish_unwritten = rw p (record {
-    on = λ text n f. first_all (v.all text n f);
+  pub finish_unwritten : {x : WriteFailed} → LastEnsures m h s' e' o' (Err x)
+      → FinishEnsures m h t s' e' o' (Err Unwritten)
+  finish_unwritten v = rw p (record {
+    on = λ text n f. lost_last (v.all text n f) (v.written text n f);
     all = v.all;
     read = λ q. let i : ◌≡◌ {A = ℕ} 0 1 = cc in omega arith;
   })
 
 pub finish_stopped : (m : Memory) (h : SessionState) {x : Stopped} {t : Result ⊤ Stopped} {r : Result ⊤ Stopped}
     → t ≡ Err x → r ≡ Err x
-    → FinishEnsures m h t m.store h.engine r
-finish_stopped m h p q = rw (p, q) (record { result = refl; store = refl; engine = refl })
+    → FinishEnsures m h t m.store h.engine h.outcomes r
+finish_stopped m h p q = rw (p, q) (record { result = refl; store = refl; engine = refl; outcomes = refl })

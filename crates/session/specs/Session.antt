@@ -1,5 +1,5 @@
 -- What the program promises of its input.
-use Rattle.std.specs.Prelude.{List, [], ℕ, ⊤, Result}
+use Rattle.std.specs.Prelude.{Bool, List, [], ℕ, ⊤, Result}
 use Rattle.text.specs.Text.{Bytes}
 use Rattle.text.specs.Engine.{Contents}
 use Rattle.session.specs.Answer.{Memory, SessionState}
@@ -10,7 +10,7 @@ use Rattle.session.specs.declared.outcome.Stopped.{Stopped}
 
 -- From a start at which nothing has come and no line was run, read after read until one does not bring more or an
 -- answer is not written, and then the end. What was run is that of the bytes that came, in order.
-pub record SessionEnsures (s' : List ℕ) (e' : Contents) (r : Result ⊤ Stopped) : Type 0 where
+pub record SessionEnsures (s' : List ℕ) (e' : Contents) (o' : List Bool) (r : Result ⊤ Stopped) : Type 0 where
   pub before : Memory
   pub start : SessionState
   pub begins : FeedInvariant [] 0 before start
@@ -18,6 +18,6 @@ pub record SessionEnsures (s' : List ℕ) (e' : Contents) (r : Result ⊤ Stoppe
   pub state : SessionState
   pub received : Result ⊤ Stopped
   pub reads : Reads before start memory state received
-  pub finishes : FinishEnsures memory state received s' e' r
+  pub finishes : FinishEnsures memory state received s' e' o' r
   pub text : Bytes
-  pub runs : AfterInput r text s' e'
+  pub runs : AfterInput r text s' e' o'

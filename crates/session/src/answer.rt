@@ -1,19 +1,21 @@
 // The answer to one line.
 ghost use Rattle.std.specs.Prelude.{◌≤◌, length, take};
 ghost use Rattle.session.specs.Answer.{memory_of, state_of, KeepsSession, AnswerRequires, AnswerEnsures, ReplyEnsures};
+ghost use Rattle.session.specs.Feed.{FeedRequires};
+ghost use Rattle.session.specs.Output.{PutEnsures};
 ghost use Rattle.text.specs.Limits.{answer_room};
-ghost use Rattle.text.specs.Engine.{IsEngine, KeepsEngine};
+ghost use Rattle.text.specs.Engine.{contents, IsEngine, KeepsEngine};
 ghost use Rattle.text.specs.Progress.{Resumes};
 
-use std::io::{Print, Stdout};
+use crate::output::{Output, WriteFailed};
 use text::engine::Engine;
 use text::limits::ANSWER_ROOM;
 use text::progress::Progress;
 use text::squeeze::Squeeze;
 
-// A session on standard input: the line that has come so far, squeezed into the front of `line`, and the engine after
-// the lines before it. The engine is a reference: were it held by value, no proof would know what its store holds once
-// the session is gone.
+// A session on standard input: the line that has come so far, squeezed into the front of `line` (a slice with a length
+// beside it, and no Vec: the memory is fixed, with no heap), and the engine after the lines before it. The engine is a
+// reference: were it held by value, no proof would know what its store holds once the session is gone.
 #[derive(Drop)]
 pub struct Session<'l, 'b, 'a> {
     pub line: &'l mut [u8],
@@ -21,18 +23,14 @@ pub struct Session<'l, 'b, 'a> {
     pub engine: &'l mut Engine<'b, 'a>,
 }
 
-// Writing an answer failed.
-#[derive(Clone, Copy)]
-pub struct WriteFailed;
-
 impl<'l, 'b, 'a> Session<'l, 'b, 'a> {
     // Puts the answer at the front of the output. The LF makes an empty line a line.
     fn reply(&mut self, out: &mut [u8]) -> Progress
-        requires { AnswerRequires (memory_of self.old) self.old.squeeze (state_of self.old).engine
+        requires { AnswerRequires (memory_of self.old) self.old.squeeze (contents self.old.engine.now)
             × (answer_room ≤ length out.old) }
         ensures loans { KeepsSession self.old self.new }
-        ensures replies { ReplyEnsures (memory_of self.old) self.old.squeeze (state_of self.old).engine
-            (memory_of self.new) (state_of self.new).engine out.new result }
+        ensures replies { ReplyEnsures (memory_of self.old) self.old.squeeze (contents self.old.engine.now)
+            (memory_of self.new) (contents self.new.engine.now) out.new result }
     {
         let length = self.squeeze.length;
         let line = &mut *self.line;
@@ -41,15 +39,16 @@ impl<'l, 'b, 'a> Session<'l, 'b, 'a> {
     }
 
     // Runs the line and writes its answer.
-    pub fn answer(&mut self, stdout: Stdout) -> Result<(), WriteFailed>
-        requires { AnswerRequires (memory_of self.old) self.old.squeeze (state_of self.old).engine }
+    pub fn answer<W: Output>(&mut self, output: &mut W) -> Result<(), WriteFailed>
+        requires { FeedRequires (memory_of self.old) (state_of self.old (W.outcomes output.old)) }
         ensures loans { KeepsSession self.old self.new }
-        ensures answers { AnswerEnsures (memory_of self.old) self.old.squeeze (state_of self.old).engine
-            (memory_of self.new) (state_of self.new).engine }
+        ensures answers { AnswerEnsures (memory_of self.old) self.old.squeeze (contents self.old.engine.now)
+            (memory_of self.new) (contents self.new.engine.now) }
+        ensures writes { PutEnsures (W.outcomes output.old) (W.outcomes output.new) result }
     {
         let mut out = [0u8; ANSWER_ROOM];
         let bytes = self.reply(&mut out).bytes;
-        stdout.write_all(&out[..bytes]).map_err(|_| WriteFailed)
+        output.put(&out[..bytes])
     }
 }
 

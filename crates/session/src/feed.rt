@@ -3,20 +3,21 @@
 ghost use Rattle.std.specs.Prelude.{[], ◌∷◌};
 ghost use Rattle.session.specs.Answer.{memory_of, state_of, KeepsSession};
 ghost use Rattle.session.specs.Feed.{FeedRequires, FeedEnsures, LastEnsures};
+ghost use Rattle.text.specs.Engine.{contents};
 
-use crate::answer::{Session, WriteFailed};
-use std::io::Stdout;
+use crate::answer::Session;
+use crate::output::{Output, WriteFailed};
 use text::squeeze::Squeeze;
 
 impl<'l, 'b, 'a> Session<'l, 'b, 'a> {
-    fn step(&mut self, stdout: Stdout, b: u8) -> Result<(), WriteFailed>
-        requires { FeedRequires (memory_of self.old) (state_of self.old) }
+    fn step<W: Output>(&mut self, output: &mut W, b: u8) -> Result<(), WriteFailed>
+        requires { FeedRequires (memory_of self.old) (state_of self.old (W.outcomes output.old)) }
         ensures loans { KeepsSession self.old self.new }
-        ensures feeds { FeedEnsures (b ∷ []) (memory_of self.old) (state_of self.old)
-            (memory_of self.new) (state_of self.new) result }
+        ensures feeds { FeedEnsures (b ∷ []) (memory_of self.old) (state_of self.old (W.outcomes output.old))
+            (memory_of self.new) (state_of self.new (W.outcomes output.new)) result }
     {
         if b == b'\n' {
-            self.answer(stdout)?;
+            self.answer(output)?;
             self.squeeze = Squeeze::none();
             return Ok(());
         }
@@ -25,27 +26,27 @@ impl<'l, 'b, 'a> Session<'l, 'b, 'a> {
     }
 
     // The bytes that come next.
-    pub fn feed(&mut self, stdout: Stdout, part: &[u8]) -> Result<(), WriteFailed>
-        requires { FeedRequires (memory_of self.old) (state_of self.old) }
+    pub fn feed<W: Output>(&mut self, output: &mut W, part: &[u8]) -> Result<(), WriteFailed>
+        requires { FeedRequires (memory_of self.old) (state_of self.old (W.outcomes output.old)) }
         ensures loans { KeepsSession self.old self.new }
-        ensures feeds { FeedEnsures part.now (memory_of self.old) (state_of self.old)
-            (memory_of self.new) (state_of self.new) result }
+        ensures feeds { FeedEnsures part.now (memory_of self.old) (state_of self.old (W.outcomes output.old))
+            (memory_of self.new) (state_of self.new (W.outcomes output.new)) result }
     {
         for b in part {
-            self.step(stdout, *b)?;
+            self.step(output, *b)?;
         }
         Ok(())
     }
 
     // "a last part without LF counts unless empty"; of a line that has a byte, one is kept.
-    pub fn last(&mut self, stdout: Stdout) -> Result<(), WriteFailed>
-        requires { FeedRequires (memory_of self.old) (state_of self.old) }
+    pub fn last<W: Output>(&mut self, output: &mut W) -> Result<(), WriteFailed>
+        requires { FeedRequires (memory_of self.old) (state_of self.old (W.outcomes output.old)) }
         ensures loans { KeepsSession self.old self.new }
-        ensures ends { LastEnsures (memory_of self.old) (state_of self.old)
-            (memory_of self.new).store (state_of self.new).engine }
+        ensures ends { LastEnsures (memory_of self.old) (state_of self.old (W.outcomes output.old))
+            (memory_of self.new).store (contents self.new.engine.now) (W.outcomes output.new) result }
     {
         if 0 < self.squeeze.length {
-            return self.answer(stdout);
+            return self.answer(output);
         }
         Ok(())
     }

@@ -5,35 +5,40 @@ ghost use Rattle.session.specs.Input.{ReadEnsures, InputInvariant, ReceiveEnsure
 
 use crate::answer::Session;
 use crate::outcome::Stopped;
-use std::io::{Stdin, Stdout};
+use crate::output::Output;
+use std::io::Stdin;
 
 // How many bytes are read at once.
 const PART: usize = 4096;
 
 impl<'l, 'b, 'a> Session<'l, 'b, 'a> {
     // Reads once, answers the lines that end in what came, and says how many bytes came.
-    fn read(&mut self, stdin: Stdin, stdout: Stdout) -> Result<usize, Stopped>
-        requires { FeedRequires (memory_of self.old) (state_of self.old) }
+    fn read<W: Output>(&mut self, stdin: Stdin, output: &mut W) -> Result<usize, Stopped>
+        requires { FeedRequires (memory_of self.old) (state_of self.old (W.outcomes output.old)) }
         ensures loans { KeepsSession self.old self.new }
-        ensures reads { ReadEnsures (memory_of self.old) (state_of self.old)
-            (memory_of self.new) (state_of self.new) result }
+        ensures reads { ReadEnsures (memory_of self.old) (state_of self.old (W.outcomes output.old))
+            (memory_of self.new) (state_of self.new (W.outcomes output.new)) result }
     {
         let mut part = [0u8; PART];
         let count = stdin::read(stdin, &mut part)?;
-        self.feed(stdout, &part[..count])?;
+        self.feed(output, &part[..count])?;
         Ok(count)
     }
 
     // Reads to the input's end, or to the first answer that could not be written. A proved loop has to end, and nothing
     // says that an input does: no run uses this count up.
-    pub fn receive(&mut self, stdin: Stdin, stdout: Stdout) -> Result<(), Stopped>
-        requires { InputInvariant (memory_of self.old) (state_of self.old) }
+    //
+    // The program `verdict` has this loop too, over a buffer. One for both is no plainer: it takes a trait in `stdin`
+    // with an error type, what may come, a relation for a part, a law and steps of its own (130 lines with the proofs,
+    // of which `verdict` wins back 70), and here a struct over session and output, whose loans that relation carries.
+    pub fn receive<W: Output>(&mut self, stdin: Stdin, output: &mut W) -> Result<(), Stopped>
+        requires { InputInvariant (memory_of self.old) (state_of self.old (W.outcomes output.old)) }
         ensures loans { KeepsSession self.old self.new }
-        ensures receives { ReceiveEnsures (memory_of self.old) (state_of self.old)
-            (memory_of self.new) (state_of self.new) result }
+        ensures receives { ReceiveEnsures (memory_of self.old) (state_of self.old (W.outcomes output.old))
+            (memory_of self.new) (state_of self.new (W.outcomes output.new)) result }
     {
         for _ in 0..u64::MAX {
-            if self.read(stdin, stdout)? == 0 {
+            if self.read(stdin, output)? == 0 {
                 return Ok(());
             }
         }

@@ -9,18 +9,22 @@ mod answer;
 mod feed;
 mod input;
 mod outcome;
+mod output;
+#[cfg(test)]
+mod tests;
 
-ghost use Rattle.std.specs.Prelude.{◌≡◌, ◌≤◌, length};
+ghost use Rattle.std.specs.Prelude.{◌≡◌, ◌≤◌, [], length};
 ghost use Rattle.diagram.specs.Node.{capacity};
 ghost use Rattle.session.specs.Session.{SessionEnsures};
-ghost use Rattle.text.specs.Engine.{Contents, contents, KeepsEngine};
+ghost use Rattle.text.specs.Engine.{contents, KeepsEngine};
 ghost use Rattle.text.specs.Limits.{line_room};
 
 use answer::Session;
 use diagram::diagram::Diagram;
 use diagram::registers::Registers;
 use outcome::Stopped;
-use std::io::{Stdin, Stdout};
+use output::{Output, Recorded};
+use std::io::Stdin;
 use text::engine::Engine;
 use text::limits::LINE_ROOM;
 use text::squeeze::Squeeze;
@@ -31,17 +35,19 @@ const STORE: usize = 32768;
 // 4096 remembered results of four words.
 const CACHE: usize = 16384;
 
-// From an engine with nothing in it: the input to its end, and its last line. The session is made here and not in
-// `run`: over variables of `run`, whose engine leads on to a parameter, no proof is generated.
-fn session<'l, 'b, 'a>(
+// The session, in an engine with nothing in it: the input to its end, and its last line.
+fn run<'l, 'b, 'a, W: Output>(
     stdin: Stdin,
-    stdout: Stdout,
+    output: &mut W,
     line: &'l mut [u8],
     engine: &'l mut Engine<'b, 'a>,
 ) -> Result<(), Stopped>
-    requires { line_room ≤ length line.old }
+    requires room { line_room ≤ length line.old }
+    requires capacity { capacity engine.old.diagram.now.store.now ≡ 2048 }
+    requires nothing_written { W.outcomes output.old ≡ [] }
     ensures loans { KeepsEngine engine.old engine.new }
-    ensures session { SessionEnsures engine.new.diagram.now.store.now (contents engine.new) result }
+    ensures session { SessionEnsures engine.new.diagram.now.store.now (contents engine.new) (W.outcomes output.new)
+        result }
 {
     engine.start();
     let mut session = Session {
@@ -49,27 +55,20 @@ fn session<'l, 'b, 'a>(
         squeeze: Squeeze::none(),
         engine,
     };
-    let received = session.receive(stdin, stdout);
-    session.finish(stdout, received)
+    let received = session.receive(stdin, output);
+    session.finish(output, received)
 }
 
-// The engine is gone when it returns, and its nodes are in the store.
-fn run(stdin: Stdin, stdout: Stdout, store: &mut [u8], cache: &mut [u64]) -> Result<(), Stopped>
-    requires { capacity store.old ≡ 2048 }
-    ensures { (e : Contents) × SessionEnsures store.new e result }
-{
+// The arrays as slices; their lengths are known here, and nothing has to count their elements.
+fn lend(rt: HostRuntime, store: &mut [u8; STORE], cache: &mut [u64; CACHE]) {
     let mut line = [0u8; LINE_ROOM];
     let mut diagram = Diagram::over(store, cache);
     let mut engine = Engine {
         diagram: &mut diagram,
         registers: Registers::empty(),
     };
-    session(stdin, stdout, &mut line, &mut engine)
-}
-
-// The arrays as slices; their lengths are known here, and nothing has to count their elements.
-fn lend(rt: HostRuntime, store: &mut [u8; STORE], cache: &mut [u64; CACHE]) {
-    if let Err(e) = run(rt.stdin(), rt.stdout(), store, cache) {
+    let mut output = Recorded::new(rt.stdout());
+    if let Err(e) = run(rt.stdin(), &mut output, &mut line, &mut engine) {
         // What cannot be written is left out.
         println!(rt.stderr(); "session: {e}").unwrap_or(());
     }

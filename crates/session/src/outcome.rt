@@ -2,11 +2,12 @@
 ghost use Rattle.std.specs.Prelude.{◌≡◌};
 ghost use Rattle.session.specs.Answer.{memory_of, state_of, KeepsSession};
 ghost use Rattle.session.specs.Outcome.{FinishRequires, FinishEnsures};
+ghost use Rattle.text.specs.Engine.{contents};
 ghost use Rattle.session.specs.declared.outcome.Stopped.TheVariants.{ReadFailed as Unread, WriteFailed as Unwritten};
 
-use crate::answer::{Session, WriteFailed};
+use crate::answer::Session;
+use crate::output::{Output, WriteFailed};
 use std::fmt;
-use std::io::Stdout;
 use stdin::ReadFailed;
 
 // Reading failed, and the line that it cut was not run; or writing failed, and no line after that was run.
@@ -43,13 +44,17 @@ impl fmt::Display for Stopped {
 
 impl<'l, 'b, 'a> Session<'l, 'b, 'a> {
     // No more is read. Where more could have come, the line that has begun is not run.
-    pub fn finish(&mut self, stdout: Stdout, received: Result<(), Stopped>) -> Result<(), Stopped>
-        requires { FinishRequires (memory_of self.old) (state_of self.old) received }
+    pub fn finish<W: Output>(
+        &mut self,
+        output: &mut W,
+        received: Result<(), Stopped>,
+    ) -> Result<(), Stopped>
+        requires { FinishRequires (memory_of self.old) (state_of self.old (W.outcomes output.old)) received }
         ensures loans { KeepsSession self.old self.new }
-        ensures finishes { FinishEnsures (memory_of self.old) (state_of self.old) received
-            (memory_of self.new).store (state_of self.new).engine result }
+        ensures finishes { FinishEnsures (memory_of self.old) (state_of self.old (W.outcomes output.old)) received
+            (memory_of self.new).store (contents self.new.engine.now) (W.outcomes output.new) result }
     {
         received?;
-        Ok(self.last(stdout)?)
+        Ok(self.last(output)?)
     }
 }

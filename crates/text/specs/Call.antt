@@ -1,7 +1,8 @@
 -- Session calls (document 01, "Session calls"; document 02, `on` and `lows`): a word and its numbers, with the checks
 -- that need the line alone.
 use Rattle.std.specs.Prelude.{◌≡◌, false, cond, ◌&&◌, ℕ, ◌≤◌, ◌<◌, leb, eqb, Result, Ok, Err}
-use Rattle.std.specs.Prelude.{IfOk}
+use Rattle.std.specs.Prelude.{IfOk, List, ◌++◌, codes, decimal}
+use Rattle.diagram.specs.Gate.{printed as printed_gate}
 use Rattle.diagram.specs.Weights.{modulus}
 use Rattle.diagram.specs.Tensor.{bits, masks}
 use Rattle.text.specs.Limits.{last_register, last_index, last_mask, last_weight, most_qubits, register_count}
@@ -100,3 +101,21 @@ InRange (call.Lows d a m) = (d < register_count) × ((a < register_count) × ((b
 -- What a line's call carries is in range, if the line is a call.
 abbrev pub Ranged : Result Call Refusal → Type 0
 Ranged r = IfOk r InRange
+
+-- a call as a line has it, with spaces between the fields
+abbrev then_number : List ℕ → ℕ → List ℕ
+then_number s n = s ++ codes " " ++ decimal n
+
+abbrev pub printed_call : Call → List ℕ
+printed_call (call.Put d w) = then_number (then_number (codes "put") d) w
+printed_call (call.Gate d g) = then_number (codes "gate") d ++ codes " " ++ printed_gate g
+printed_call (call.Unit d n) = then_number (then_number (codes "unit") d) n
+printed_call (call.Add d a b) = then_number (then_number (then_number (codes "add") d) a) b
+printed_call (call.Cont d a b m) = then_number (then_number (then_number (then_number (codes "cont") d) a) b) m
+printed_call (call.Low d a k) = then_number (then_number (then_number (codes "low") d) a) k
+printed_call (call.Drop a) = then_number (codes "drop") a
+printed_call call.Collect = codes "collect"
+printed_call (call.At a v) = then_number (then_number (codes "at") a) v
+printed_call (call.Cmp a b) = then_number (then_number (codes "cmp") a) b
+printed_call (call.On a) = then_number (codes "on") a
+printed_call (call.Lows d a m) = then_number (then_number (then_number (codes "lows") d) a) m

@@ -15,6 +15,8 @@ use Rattle.diagram.specs.declared.gate.Gate.{Gate}
 use Rattle.text.specs.declared.check.FaultAt.{FaultAt}
 use Rattle.text.specs.declared.check.Checked.{Checked}
 use Rattle.text.specs.declared.check.Item.TheVariants as item
+use Rattle.text.specs.declared.names.Misplaced.{Misplaced}
+use Rattle.text.specs.declared.names.Misplaced.TheVariants as misplaced
 
 -- "`lines` and n (1 to 8)": the first line
 unfoldable pub header_numbers : Args → Option ℕ
@@ -31,6 +33,11 @@ header_of line = header_fields (fields line)
 -- the item, if a test holds; else a fault
 abbrev pub ensured : Bool → Fault → Result Item Fault → Result Item Fault
 ensured test fault next = cond test next (Err fault)
+
+-- "12 (qubit not below n), 13 (qubits equal)"
+abbrev pub fault_of : Misplaced → Fault
+fault_of misplaced.Qubit = Qubit
+fault_of misplaced.Equal = Equal
 
 -- "within a gate line 11 (unknown name, ..), 12 (qubit not below n), 13 (qubits equal)"
 abbrev pub one_qubit_item : ℕ → ℕ → Option Gate → Result Item Fault

@@ -9,6 +9,9 @@ use Rattle.diagram.specs.Cache.{AllEarlier}
 use Rattle.diagram.specs.Tally.{Step}
 use Rattle.diagram.specs.Node.{capacity}
 use Rattle.diagram.specs.Diagram.{KeepsLoans}
+use Rattle.std.specs.Fn.{Once, FnOnceTakesAtMut, FnOnceReturnsAtMut}
+use denote.Ref.{MutBor}
+use Rattle.diagram.specs.declared.diagram.Diagram.{Diagram}
 use Rattle.diagram.specs.Operation.{RefinesCached}
 use Rattle.text.specs.Answer.{SmallAnswer}
 use Rattle.text.specs.Session.{Tally, empty_tally, at_most, settle}
@@ -122,3 +125,22 @@ MaySettle e st m = SettleRequires e.diagram.now.cache.now e.diagram.now.store.no
 abbrev pub Settles : Engine → Engine → State → ℕ → Result Edge steps.Full → Result Answer Refusal → Type 0
 Settles e e' st d m a = SettleEnsures e.diagram.now.cache.now e.diagram.now.store.now e'.diagram.now.cache.now
     e'.diagram.now.store.now (before_step e st) e.diagram.now.state d m (reply a e')
+
+-- what a closure answers that makes a step of a diagram
+abbrev pub Makes : Type 0 → Type 1
+Makes F = Once F (MutBor Diagram × Unit {0}) (Result Edge steps.Full × (MutBor Diagram × Unit {0}))
+
+-- It may make its step of the engine's diagram; over the same store and cache, and what did not fit can be rolled back.
+pub record MaySet {F : Type 0} (g : Makes F) (step : F) (e : Engine) : Type 0 where
+  pub may : FnOnceTakesAtMut g step e.diagram.now
+  pub ends : (m : Result Edge steps.Full) (d' : Diagram) → FnOnceReturnsAtMut g step e.diagram.now m d'
+      → KeepsLoans e.diagram.now d' × SettleRequires d'.cache.now d'.store.now e.diagram.now.state m
+
+-- It has made the step m and left the diagram so, and register d was set to that, or the call refused.
+pub record SetsBy {F : Type 0} (g : Makes F) (step : F) (e e' : Engine) (d : ℕ) (a : Result Answer Refusal)
+    : Type 0 where
+  pub made : Result Edge steps.Full
+  pub left : Diagram
+  pub met : FnOnceReturnsAtMut g step e.diagram.now made left
+  pub settles : SettleEnsures left.cache.now left.store.now e'.diagram.now.cache.now e'.diagram.now.store.now
+      (contents e) left.state d made (reply a e')

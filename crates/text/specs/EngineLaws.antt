@@ -15,6 +15,10 @@ use Rattle.diagram.specs.Node.{capacity}
 use Rattle.diagram.specs.Store.{set_of, tensor_of, RefinesEdge, nodes_of, RefinesFull, Refines}
 use Rattle.diagram.specs.StoreLaws.{set_length, refines_fits, refines_stays}
 use Rattle.diagram.specs.Operation.{RefinesCached}
+use Rattle.diagram.specs.Diagram.{KeepsLoans, Does, DoesCached}
+use Rattle.text.specs.Engine.{Makes, SetsBy, Sets, IsEngine}
+use Rattle.text.specs.declared.engine.Engine.{Engine}
+use Rattle.diagram.specs.declared.diagram.Diagram.{Diagram}
 use Rattle.diagram.specs.Weights.{to_weight, modulus}
 use Rattle.diagram.specs.BuildLaws.{constant_valid, constant_tensor}
 use Rattle.text.specs.Session.{empty_tally, at_most, node_count, accept, settle, refuse}
@@ -154,3 +158,25 @@ module _ {c s c' s' : List ℕ} {e : Contents} {d : ℕ} {r : Reply} (p : Engine
             (ap (λ T. (T, set_of s e.state)) (sym (constant_tensor w p.sound)));
         cache = p.cache;
       })
+
+-- the same loans after one step and another
+pub keeps_loans_then : {d d₁ d' : Diagram} → KeepsLoans d d₁ → KeepsLoans d₁ d' → KeepsLoans d d'
+keeps_loans_then k l = record {
+  long = l.long ∙ k.long;
+  same_store = l.same_store ∙ k.same_store;
+  same_cache = l.same_cache ∙ k.same_cache;
+}
+
+-- the step of a closure, and then the register
+module _ {F : Type 0} {g : Makes F} {step : F} {e e' : Engine} {d : ℕ} {a : Result Answer Refusal} (p : IsEngine e)
+    (k : SetsBy g step e e' d a) where
+  pub sets_by_cached : {f : Step indices} → DoesCached e.diagram.now k.left f k.made → Sets e e' d f a
+  sets_by_cached {f} w = sets_register_cached p f w k.settles
+
+  pub sets_by_step : {f : Step indices} → k.left.cache.now ≡ e.diagram.now.cache.now
+      → Does e.diagram.now k.left f k.made → Sets e e' d f a
+  sets_by_step {f} same w = sets_register_step p f same w k.settles
+
+  pub sets_by_constant : {w : ℕ} → w < modulus → k.left ≡ e.diagram.now → k.made ≡ Ok (record { weight = w; node = 0 })
+      → Sets e e' d (return (constant indices (to_weight w))) a
+  sets_by_constant small same made = sets_register_constant p small (rw (same, made) at k.settles)

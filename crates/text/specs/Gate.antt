@@ -7,12 +7,19 @@ use Rattle.text.specs.Args.{one_or_two_numbers, numbers}
 use Rattle.text.specs.Names.{one_qubit, two_qubits}
 use Rattle.text.specs.Call.{check_range, check_apart, malformed, check_register}
 use Rattle.text.specs.declared.call.Refusal.{Refusal}
-use Rattle.text.specs.declared.call.Refusal.TheVariants.{Name}
+use Rattle.text.specs.declared.call.Refusal.TheVariants.{Name, Range, Equal as Equal'}
+use Rattle.text.specs.declared.names.Misplaced.{Misplaced}
+use Rattle.text.specs.declared.names.Misplaced.TheVariants.{Qubit, Equal}
 use Rattle.text.specs.declared.call.Call.{Call}
 use Rattle.text.specs.declared.args.Args.{Args}
 use Rattle.diagram.specs.declared.gate.Gate.{Gate}
 use Rattle.text.specs.declared.args.Args.TheVariants.{Zero}
 use Rattle.text.specs.declared.call.Call.TheVariants as call
+
+-- "4, 6 (both qubits equal)"
+abbrev pub refusal_of : Misplaced → Refusal
+refusal_of Qubit = Range
+refusal_of Equal = Equal'
 
 -- "`gate d name q`, or with a second qubit: build of the gate. Refuses 1, 2, 5 (name not below, or wrong count of
 -- qubits for it), 4, 6 (both qubits equal), 8."

@@ -1,36 +1,71 @@
 -- Laws of Gate: its fields as the code finds them; what it carries is in range.
-use Rattle.std.specs.Prelude.{◌≡◌, List, [], ◌∷◌, ℕ, ◌≤◌, ◌+◌, ◌<◌, length, Some}
-use Rattle.std.proofs.Common.{arith}
-use Rattle.text.specs.Text.{Bytes, tab, known}
-use Rattle.text.specs.Limits.{most_digits, last_qubit, register_count}
+use Rattle.std.specs.Prelude.{◌≡◌, refl, List, [], ◌∷◌, ℕ, ◌≤◌, ◌<◌, length, Some, Bool, true, false, cond}
+use Rattle.std.specs.Prelude.{not, ◌&&◌, leb, ltb, eqb, Result, Ok, Err}
+use Rattle.std.proofs.Common.{arith, ◌∙◌, le-leb, lt-ltb, le-ltb}
+use Rattle.std.proofs.Math.Decide.{dec_lt}
+use Rattle.std.proofs.lemmas.Bool.{lt-leb}
+use Rattle.text.specs.Text.{Bytes, known}
+use Rattle.text.specs.Limits.{most_digits, last_qubit, most_qubits, register_count}
 use Rattle.text.specs.Number.{number_of}
 use Rattle.text.specs.Args.{numbers}
-use Rattle.text.specs.Names.{one_qubit, two_qubits}
+use Rattle.text.specs.Names.{one_qubit, two_qubits, placed_gate, placed_as}
 use Rattle.text.specs.Call.{malformed, Ranged, check_register}
-use Rattle.text.specs.Gate.{gate_call_fields, gate_call_of, one_qubit_call, two_qubit_call}
-use Rattle.text.specs.Split.{fields_after, Ends, part}
+use Rattle.text.specs.Gate.{gate_call_fields, gate_call_of, one_qubit_call, two_qubit_call, refusal_of}
+use Rattle.text.specs.Split.{fields_after, FieldAfter}
 use Rattle.text.specs.SplitLaws.{rest_none, rest_first}
 use Rattle.text.specs.ArgsLaws.{by_count_lem, known_lem}
 use Rattle.text.specs.CallLaws.{on_within, on_apart, on_register}
-use Rattle.text.specs.NamesLaws.{one_placed, known_placed, two_placed}
+use Rattle.text.specs.NamesLaws.{one_placed, known_placed, two_placed, one_placed_as, two_placed_as}
 use Rattle.text.specs.declared.args.Args.TheVariants.{Zero}
 use Rattle.text.specs.declared.args.Args.{Args}
+use Rattle.diagram.specs.declared.gate.Gate.{Gate}
+use Rattle.text.specs.declared.call.Call.{Call}
+use Rattle.text.specs.declared.call.Refusal.{Refusal}
+use Rattle.text.specs.declared.call.Refusal.TheVariants.{Range, Equal as Equal'}
+use Rattle.text.specs.declared.names.Misplaced.{Misplaced}
+use Rattle.text.specs.declared.call.Call.TheVariants as call
 
 pub gate_none : (s : Bytes) (e : ℕ) → length s ≤ e → malformed ≡ gate_call_fields (fields_after s e)
 unfolding gate_call_fields
 gate_none s e h = rw (rest_none s e h)
 
-pub gate_short : {s : Bytes} {e f : ℕ} → e < length s → Ends tab s (e + 1) f → length s ≤ f
-    → malformed ≡ gate_call_fields (fields_after s e)
-unfolding gate_call_fields
-gate_short {s} {e} {f} h r n = rw (rest_first h r, rest_none s f n)
+module _ {s : Bytes} {e : ℕ} {d : Bytes} {f : ℕ} (x : FieldAfter s e d f) where
+  pub gate_short : length s ≤ f → malformed ≡ gate_call_fields (fields_after s e)
+  unfolding gate_call_fields
+  gate_short n = rw (rest_first x.inside x.ends, rest_none s f n)
 
-pub gate_fields : {s : Bytes} {e f g : ℕ} → e < length s → Ends tab s (e + 1) f → f < length s → Ends tab s (f + 1) g
-    → known malformed (number_of most_digits (part s (e + 1) f))
-    (λ d. known malformed (numbers most_digits (Some Zero) (fields_after s g)) (gate_call_of d (part s (f + 1) g)))
-    ≡ gate_call_fields (fields_after s e)
-unfolding gate_call_fields
-gate_fields h r n q = rw (rest_first h r, rest_first n q)
+  pub gate_fields : {name : Bytes} {g : ℕ} → FieldAfter s f name g
+      → known malformed (number_of most_digits d)
+      (λ d. known malformed (numbers most_digits (Some Zero) (fields_after s g)) (gate_call_of d name))
+      ≡ gate_call_fields (fields_after s e)
+  unfolding gate_call_fields
+  gate_fields y = rw (x.is, y.is, rest_first x.inside x.ends, rest_first y.inside y.ends)
+
+-- a gate of a known name: its qubits are checked as `placed_gate` does
+
+abbrev pub call_placed : ℕ → Result Gate Misplaced → Result Call Refusal
+call_placed d = placed_as (λ g. Ok (call.Gate d g)) (λ m. Err (refusal_of m))
+
+-- a qubit from 0 to the last is one below 8
+qubit_range : (q : ℕ) → leb 0 q && leb q last_qubit ≡ ltb q most_qubits
+qubit_range q = elim (dec_lt q most_qubits) [
+  | yes h ↦ rw (lt-ltb _ _ h, le-leb 0 q (omega arith), le-leb q last_qubit (omega arith)) refl
+  | no h ↦ rw (le-ltb q most_qubits (omega arith), le-leb 0 q (omega arith), lt-leb q last_qubit (omega arith)) refl
+]
+
+module _ (d : ℕ) (s : Bytes) {g : Gate} {r : Result Gate Misplaced} (f : r ≡ placed_gate most_qubits g) where
+  pub one_call : (q : ℕ) → one_qubit s q ≡ Some g → call_placed d r ≡ one_qubit_call d q (one_qubit s q)
+  one_call q e = rw (f, e, qubit_range q) (one_placed_as _ _ most_qubits s q e)
+
+  pub two_call : (p q : ℕ) → two_qubits s p q ≡ Some g → call_placed d r ≡ two_qubit_call d p q (two_qubits s p q)
+  two_call p q e = rw (f, e, qubit_range p, qubit_range q)
+      (two_placed_as _ _ most_qubits s p q e ∙ go (ltb p most_qubits) (ltb q most_qubits) (eqb p q))
+    where
+      go : (b c same : Bool)
+          → cond b (cond c (cond (not same) (Ok (call.Gate d g)) (Err Equal')) (Err Range)) (Err Range)
+          ≡ cond b (cond c (cond same (Err Equal') (Ok (call.Gate d g))) (Err Range)) (Err Range)
+      go b c true = refl
+      go b c false = refl
 
 one_ranged : (d q : ℕ) (name : Bytes) → d < register_count → Ranged (one_qubit_call d q (one_qubit name q))
 one_ranged d q name h =

@@ -29,7 +29,7 @@ use Rattle.text.specs.Session.{empty_tally, empty_run, session}
 use Rattle.text.specs.Check.{Reading, lists, fault, read_text}
 use Rattle.text.specs.Qubits.{qubits_on, qubits}
 use Rattle.text.specs.VerdictSession.{NumberedCall, PerformResult, continue_with, perform, refused_at, ended_with}
-use Rattle.text.specs.VerdictSession.{ruling_of_answer, ruling_at_end, session_calls, ruling_of_reading, ruling_on}
+use Rattle.text.specs.VerdictSession.{comparison_of, ruling_at_end, session_calls, ruling_of_reading, ruling_on}
 use Rattle.text.specs.VerdictSession.{verdict_result}
 use Rattle.text.specs.GrowSession.{qubits_below, touches, read_touches, all_touch, lines_touch, grow_register}
 use Rattle.text.specs.GrowSession.{grow_registers}
@@ -291,7 +291,7 @@ ruling_grows : {d : ℕ} (m : ℕ) (c : Capacity) (x : PerformResult d)
 unfolding ruling_at_end touches
 ruling_grows m c (refused_at line r) = refl
 ruling_grows m c (ended_with t) =
-    ap (λ (y : TallyReply _). Ok (ruling_of_answer y.0)) (grow_answer m c (call.Cmp 0 1) t refl)
+    ap (λ (y : TallyReply _). Ok (comparison_of y.0)) (grow_answer m c (call.Cmp 0 1) t refl)
 
 ruling_of_reading_grows : (d m : ℕ) (c : Capacity) (r : Reading) → reading_touches d r ≡ true
     → ruling_of_reading (deeper d m) c r ≡ ruling_of_reading d c r

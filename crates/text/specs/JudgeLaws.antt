@@ -13,7 +13,7 @@ use Rattle.text.specs.Session.{Capacity, answer, at_most}
 use Rattle.text.specs.Check.{lists, read_text, read_lines, gate_items, GoodText, Reading, fault, checked_of}
 use Rattle.text.specs.Check.{TextRead, CheckedInRange}
 use Rattle.text.specs.Ruling.{Ruling, SmallRuling, RulingWritten, no_at}
-use Rattle.text.specs.VerdictSession.{ruling_of_answer, perform, ruling_at_end, list_calls, session_calls}
+use Rattle.text.specs.VerdictSession.{comparison_of, perform, ruling_at_end, list_calls, session_calls}
 use Rattle.text.specs.VerdictSession.{ruling_of_reading, ruling_on, verdict_result}
 use Rattle.text.specs.Engine.{Contents, Reply, tally_of, EngineStartEnsures}
 use Rattle.text.specs.Respond.{RespondEnsures}
@@ -41,7 +41,7 @@ use Rattle.text.specs.declared.check.Item.TheVariants as item
 
 -- comparing
 
-small_ruling : (a : Result Answer Refusal) → SmallAnswer a → SmallRuling (Ok (ruling_of_answer a))
+small_ruling : (a : Result Answer Refusal) → SmallAnswer a → SmallRuling (Ok (comparison_of a))
 small_ruling (Ok (answers.Compared r)) h = h
 small_ruling (Ok (answers.Done n)) h = tt
 small_ruling (Ok (answers.Value w)) h = tt
@@ -51,7 +51,7 @@ small_ruling (Err r) h = tt
 -- the end of a session
 
 ruling_end : (c : Capacity) (s : List ℕ) (x : ListState) → x.refused ≡ false
-    → Ok (ruling_of_answer (answer c (call.Cmp 0 1) (tally_of s x.engine)).0) ≡ ruling_from_state c [] s x
+    → Ok (comparison_of (answer c (call.Cmp 0 1) (tally_of s x.engine)).0) ≡ ruling_from_state c [] s x
 unfolding ruling_from_state ruling_from perform ruling_at_end
 ruling_end c s x q = rw q
 
@@ -72,10 +72,10 @@ module _ {l : GateList} {s c' s' : List ℕ} {a x : ListState} (w : ListEnsures 
       }
 
   pub second_ensures : {y : Reply} {r : Comparison} → length s' ≡ length s → x.refused ≡ false
-      → RespondEnsures c' s' s' x.engine (call.Cmp 0 1) y → r ≡ ruling_of_answer y.answer
+      → RespondEnsures c' s' s' x.engine (call.Cmp 0 1) y → r ≡ comparison_of y.answer
       → SecondEnsures l s a (Ok r)
   second_ensures {y} {r} m q u e = record {
-    is = λ hs rest ls. ap Ok e ∙ ap (λ z. Ok (ruling_of_answer z.0)) (sym u.is)
+    is = λ hs rest ls. ap Ok e ∙ ap (λ z. Ok (comparison_of z.0)) (sym u.is)
         ∙ (rw m (ruling_end (at_most (capacity s)) s' x q)) ∙ through hs rest ls;
     small = subst (λ z. SmallRuling (Ok z)) (sym e) (small_ruling y.answer u.small);
   }

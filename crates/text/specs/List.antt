@@ -190,6 +190,13 @@ pub record KeepsText (l l' : Lists) : Type 0 where
   pub same_text : l'.text.now ≡ l.text.now
   pub same_qubits : l'.qubits ≡ l.qubits
 
+-- the line at hand was passed, and nothing else is changed
+pub record PassesLine (l l' : Lists) (passed : Bytes) : Type 0 where
+  pub is : passed ≡ part l.text.now l.place (end_from LF l.text.now l.place)
+  pub place : l'.place ≡ next_line l.text.now l.place
+  pub line : l'.line ≡ l.line + 1
+  pub same_engine : l'.engine ≡ l.engine
+
 abbrev pub Opens : Lists → Lists → ℕ → Result ⊤ Refusal → Type 0
 Opens l l' r x = OpenEnsures l.text.now l.qubits r l.engine.diagram.now.store.now l'.engine.diagram.now.cache.now
     l'.engine.diagram.now.store.now (stand false l) (stand (is_err x) l')

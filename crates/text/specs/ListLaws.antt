@@ -8,7 +8,7 @@ use Rattle.text.specs.Text.{Bytes, LF}
 use Rattle.text.specs.Session.{Capacity, at_most}
 use Rattle.text.specs.Check.{item_of, GateRead, IsGate, gate_items}
 use Rattle.text.specs.VerdictSession.{NumberedCall, gate_calls, at_line, gates_calls, list_calls}
-use Rattle.text.specs.Split.{part, Ends, end_from}
+use Rattle.text.specs.Split.{part, end_from}
 use Rattle.text.specs.Engine.{EngineInvariant}
 use Rattle.text.specs.Perform.{PerformState, ruling_from, PerformsCalls}
 use Rattle.text.specs.List.{ListState, list_state_of, ruling_from_state, PerformsLines, LineAhead, LinePassed}
@@ -41,11 +41,11 @@ ruling_not_refused c line more s a q = rw q
 same_gate : {g k : Gate} → ◌≡◌ {A = Result Item Fault} (Ok (item.Gate g)) (Ok (item.Gate k)) → g ≡ k
 same_gate e = cc
 
-module _ {text : Bytes} {a x : ListState} {e : ℕ} {b : PerformState} (h : LineAhead text a)
-    (n : Ends LF text a.place e) (q : x ≡ list_state_of b (a.line + 1) (e + 1)) where
+module _ {text : Bytes} {a x : ListState} {b : PerformState} (h : LineAhead text a)
+    (q : x ≡ list_state_of b (a.line + 1) (next_line text a.place)) where
   line_passed : LinePassed text a x
-  line_passed = rw q (record {
-    place = ap (λ k. k + 1) n.place;
+  line_passed = let n = ends_from LF text a.place (omega (arith, h.inside)) in rw q (record {
+    place = refl;
     line = refl;
     passed = omega (arith, h.passed, n.from);
   })
@@ -59,7 +59,7 @@ module _ {text : Bytes} {a x : ListState} {e : ℕ} {b : PerformState} (h : Line
         λ more. ruling_not_refused (at_most (capacity s)) (a.line + 1) (at_line (a.line + 1) xs ++ more) s a
         h.not_refused
         ∙ w.is (a.line + 1) more
-        ∙ ruling_state (at_most (capacity s)) (a.line + 1) (e + 1) more s' b;
+        ∙ ruling_state (at_most (capacity s)) (a.line + 1) (next_line text a.place) more s' b;
   })
 
   pub open_ensures : {m r : ℕ} {s c' s' : List ℕ}
@@ -68,21 +68,22 @@ module _ {text : Bytes} {a x : ListState} {e : ℕ} {b : PerformState} (h : Line
   unfolding at_line
   open_ensures w = record { passes = line_passed; performs = performs_line w }
 
-  pub gate_ensures : {m r : ℕ} {s c' s' : List ℕ} {g : Gate} → GateRead m (part text a.place e) g
+  pub gate_ensures : {m r : ℕ} {s c' s' : List ℕ} {g : Gate} {line : Bytes}
+      → line ≡ part text a.place (end_from LF text a.place) → GateRead m line g
       → PerformsCalls s c' s' (record { refused = false; engine = a.engine }) (gate_calls r g) b
       → GateEnsures text m r s c' s' a x
-  gate_ensures {m} {r} {s} {c'} {s'} {g} f w = record { passes = line_passed; performs = each }
+  gate_ensures {m} {r} {s} {c'} {s'} {g} is f w = record { passes = line_passed; performs = each }
     where
       each : (k : Gate) → item_of m (part text a.place (end_from LF text a.place)) ≡ Ok (item.Gate k)
           → PerformsLines s c' s' a (at_line (a.line + 1) (gate_calls r k)) x
       each k z =
           subst (λ y. PerformsLines s c' s' a (at_line (a.line + 1) (gate_calls r y)) x)
-          (same_gate (sym f.gate ∙ rw n.place z)) (performs_line w)
+          (same_gate (sym f.gate ∙ rw is z)) (performs_line w)
 
 -- the line at hand is a gate's
-pub line_is_gate : {text : Bytes} {m : ℕ} {a : ListState} {e : ℕ} → GateRequires text m a → Ends LF text a.place e
-    → IsGate (item_of m (part text a.place e))
-line_is_gate f n = rw (n.place, f.is) tt
+pub line_is_gate : {text : Bytes} {m : ℕ} {a : ListState} {line : Bytes} → GateRequires text m a
+    → line ≡ part text a.place (end_from LF text a.place) → IsGate (item_of m line)
+line_is_gate f is = rw (is, f.is) tt
 
 pub gates_loop_start : {l : GateList} {a : ListState} {c s : List ℕ} → EngineInvariant c s a.engine
     → GatesRequires l a → GatesLoop l a s c s 0 a

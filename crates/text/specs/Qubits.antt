@@ -1,8 +1,7 @@
 -- A gate's qubits (document 01, "Verdicts"), in rising order and as the code has them.
 use Rattle.std.specs.Prelude.{List, [], ◌∷◌, ◌≡◌, true, ℕ, min, max, ◌+◌, ◌*◌, ◌^◌, suc, ◌≤◌, ◌<◌}
-use Rattle.diagram.specs.Gate.{shape}
+use Rattle.diagram.specs.Gate.{shape, AllBelowEight}
 use Rattle.diagram.specs.Tensor.{Bits}
-use Rattle.text.specs.Limits.{most_qubits}
 use Rattle.diagram.specs.declared.gate.Shape.{Shape}
 use Rattle.diagram.specs.declared.gate.Gate.{Gate}
 use Rattle.diagram.specs.declared.gate.Shape.TheVariants.{One, Two}
@@ -39,10 +38,6 @@ AllFit d (g ∷ gs) = Rising d 0 (qubits g) × AllFit d gs
 abbrev pub qubit_list : Shape → List ℕ
 qubit_list (One q) = q ∷ []
 qubit_list (Two p q) = p ∷ q ∷ []
-
-abbrev pub AllBelowEight : Shape → Type 0
-AllBelowEight (One q) = q < most_qubits
-AllBelowEight (Two p q) = (p < most_qubits) × (q < most_qubits)
 
 pub record QubitsOf (g : Gate) (r : Shape) : Type 0 where
   pub is : qubit_list r ≡ qubits g

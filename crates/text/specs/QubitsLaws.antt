@@ -2,16 +2,15 @@
 use Rattle.std.specs.Prelude.{◌≡◌, refl, true, false, List, [], ◌∷◌, ℕ, ◌≤◌, ◌<◌, min, max, ◌+◌, ◌*◌, ◌^◌, ◌%◌, suc}
 use Rattle.std.specs.Prelude.{◌/◌, zero, eqb}
 use Rattle.std.proofs.Common.{ap, sym, subst, ◌∙◌, arith, pow-suc, eq-eqb}
-use Rattle.std.proofs.Math.Pow.{pow-lt}
 use Rattle.std.proofs.lemmas.Bool.{eqb-false}
-use Rattle.diagram.specs.Gate.{shape, ShapeBelow, GateBelow, first_qubit_on, second_qubit_on}
-use Rattle.diagram.specs.MaskLaws.{one_shl}
+use Rattle.diagram.specs.Gate.{shape, ShapeBelow, GateBelow, first_qubit_on, second_qubit_on, AllBelowEight}
+use Rattle.diagram.specs.Gate.{middles as middles_on}
 use Rattle.diagram.specs.Tensor.{bits, index_count}
 use Rattle.diagram.specs.Entry.{QubitsInRange}
 use Rattle.text.specs.Limits.{most_qubits}
 use Rattle.text.specs.Names.{PlacedOn, Placed}
 use Rattle.text.specs.Check.{AllPlaced}
-use Rattle.text.specs.Qubits.{QubitsOf, qubits_on, qubits, qubit_list, middles, AllBelowEight, Rising, AllSet}
+use Rattle.text.specs.Qubits.{QubitsOf, qubits_on, qubits, qubit_list, middles, Rising, AllSet}
 use Rattle.text.specs.Qubits.{AllFit}
 use Rattle.diagram.specs.declared.gate.Gate.{Gate}
 use Rattle.diagram.specs.declared.gate.Shape.{Shape}
@@ -32,22 +31,11 @@ module _ (g : Gate) {x : Shape} (h : Placed most_qubits g) (e : x ≡ shape g) w
       let k = placed f in
       record { is = rw (u, v) (listed_as f); below = (rw u (omega arith), rw v (omega arith)) }
 
--- 2 to the middle index
-
-pub middle_set : (q : ℕ) → q < most_qubits → (1 * 2 ^ (3 * q + 1)) % 2 ^ 64 ≡ 2 ^ (3 * q + 1)
-middle_set q p = one_shl (3 * q + 1) (omega arith)
-
-pub middle_small : (q : ℕ) → q < most_qubits → (1 * 2 ^ (3 * q + 1)) % 2 ^ 64 < 8388608
-middle_small q p = rw (middle_set q p) (pow-lt {i = 3 * q + 1} {j = 23} (omega arith))
-
-pub middles_one : {q r : ℕ} {x : Shape} → x ≡ One q → r ≡ 2 ^ (3 * q + 1) → r ≡ middles (qubit_list x)
+-- diagram's mask of a gate's middles is that of its qubits in a list
+pub middles_listed : {m : ℕ} (x : Shape) → m ≡ middles_on x → m ≡ middles (qubit_list x)
 unfolding middles
-middles_one m e = rw m (omega arith)
-
-pub middles_two : {p q r s : ℕ} {x : Shape} → x ≡ Two p q → r ≡ 2 ^ (3 * p + 1) → s ≡ 2 ^ (3 * q + 1)
-    → r + s ≡ middles (qubit_list x)
-unfolding middles
-middles_two m e f = rw m (omega arith)
+middles_listed (One q) e = omega (arith, e)
+middles_listed (Two p q) e = omega (arith, e)
 
 pub below_one : {q : ℕ} (x : Shape) → AllBelowEight x → x ≡ One q → q < most_qubits
 below_one x b e = subst AllBelowEight e b

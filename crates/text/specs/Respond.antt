@@ -1,5 +1,5 @@
 -- What a call does and answers: as the tally's.
-use Rattle.std.specs.Prelude.{List, ◌≡◌, ℕ, Result, Some, MatchResult}
+use Rattle.std.specs.Prelude.{List, ◌≡◌, ℕ, Result, Ok, Err, Some, MatchResult}
 use Rattle.diagram.specs.Node.{capacity}
 use Rattle.diagram.specs.Registers.{Register, GetEnsures, empty_register}
 use Rattle.text.specs.Answer.{SmallAnswer}
@@ -34,6 +34,11 @@ Forgets (call.Cmp a b) = FullForgets
 Forgets (call.On a) = FullForgets
 Forgets (call.Lows d a m) = FullForgets
 
+-- the same of a line that was read; what its reader refused has begun nothing
+abbrev pub ForgetsRead : Result Call Refusal → List ℕ → Reply → Type 0
+ForgetsRead (Ok x) = Forgets x
+ForgetsRead (Err why) = λ c' r. Unit {0}
+
 -- The call answers as the tally's does, and leaves what the tally's leaves.
 pub record RespondEnsures (c' s s' : List ℕ) (e : Contents) (x : Call) (r : Reply) : Type 0 where
   pub invariant : EngineInvariant c' s' r.engine
@@ -48,6 +53,7 @@ pub record ReplyEnsures (c' s s' : List ℕ) (e : Contents) (x : Result Call Ref
   pub small : SmallAnswer r.answer
   pub is : answer_read (at_most (capacity s)) x (tally_of s e) ≡ (r.answer, tally_of s' r.engine)
   pub refused : RefusedUnchanged s s' e r
+  pub forgets : ForgetsRead x c' r
 
 -- the same, of an engine e before the call and e' after it
 abbrev pub Responds : Engine → Engine → Call → Result Answer Refusal → Type 0

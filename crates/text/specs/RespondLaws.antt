@@ -8,7 +8,7 @@ use Rattle.std.proofs.lemmas.Bool.{false≢true}
 use Rattle.diagram.specs.InvariantLaws.{holds_read, read_valid, invariant_clear, invariant_collect}
 use Rattle.diagram.specs.Tensor.{Tensor, indices, bits, constant, depends, value, masks}
 use Rattle.diagram.specs.Meaning.{Valid}
-use Rattle.diagram.specs.Store.{set_of, tensor_of, Refines}
+use Rattle.diagram.specs.Store.{set_of, tensor_of}
 use Rattle.diagram.specs.StoreLaws.{set_length}
 use Rattle.diagram.specs.Registers.{Register, GetEnsures, RegistersValid, empty_register, holds}
 use Rattle.diagram.specs.RegistersLaws.{holds_set}
@@ -26,10 +26,10 @@ use Rattle.text.specs.Call.{InRange, Ranged, refusal_number}
 use Rattle.text.specs.Answer.{SmallAnswer}
 use Rattle.text.specs.Session.{TallyReply, refuse, with_tensor, with_register, at_most, answer, settle}
 use Rattle.text.specs.Session.{node_count, accept}
-use Rattle.text.specs.Engine.{Contents, Reply, EngineInvariant, tally_of, FullForgets, SetsRegister, SettleEnsures}
+use Rattle.text.specs.Engine.{Contents, Reply, EngineInvariant, tally_of, FullForgets, SetsRegister}
 use Rattle.text.specs.Operate.{SetsUnless}
 use Rattle.text.specs.Respond.{RespondEnsures, ReplyEnsures, Forgets}
-use Rattle.text.specs.EngineLaws.{sets_register_constant, sets_register_step, never_full}
+use Rattle.text.specs.EngineLaws.{never_full}
 use Rattle.text.specs.declared.call.Call.{Call}
 use Rattle.diagram.specs.declared.node.Edge.{Edge}
 use Rattle.text.specs.declared.call.Refusal.TheVariants.{Empty, Depends}
@@ -41,7 +41,6 @@ use Rattle.diagram.specs.declared.compare.Comparison.{Comparison}
 use Rattle.diagram.specs.declared.registers.Registers.{Registers}
 use Rattle.diagram.specs.declared.make.State.{State}
 use Rattle.text.specs.declared.call.Call.TheVariants as call
-use Rattle.diagram.specs.declared.diagram.Full as steps
 use Rattle.diagram.specs.declared.compare.Comparison.TheVariants as compare
 
 -- what a call's line said, case by case
@@ -56,7 +55,13 @@ responds_as {c'} {s} {s'} {e} {r = r} q h = subst (λ z. RespondEnsures c' s s' 
 pub reply_call : {c' s s' : List ℕ} {e : Contents} {x : Result Call Refusal} {y : Call} {r : Reply} → x ≡ Ok y
     → RespondEnsures c' s s' e y r
     → ReplyEnsures c' s s' e x r
-reply_call q h = record { invariant = h.invariant; small = h.small; is = rw q h.is; refused = h.refused }
+reply_call q h = record {
+  invariant = h.invariant;
+  small = h.small;
+  is = rw q h.is;
+  refused = h.refused;
+  forgets = rw q h.forgets;
+}
 
 pub read_ranged : {x : Result Call Refusal} {y : Call} → Ranged x → x ≡ Ok y → InRange y
 read_ranged h q = rw q at h
@@ -90,7 +95,7 @@ pub refused_forgets : {c : List ℕ} (e : Contents) (why : Refusal) → refusal_
 refused_forgets e why n q = absurd (n (ap refusal_of_answer q))
 
 module _ {c s : List ℕ} {e : Contents} (p : EngineInvariant c s e) where
-  respond_refused : {x : Call} (why : Refusal) → Forgets x c (refused_by why e)
+  pub respond_refused : {x : Call} (why : Refusal) → Forgets x c (refused_by why e)
       → answer (at_most (capacity s)) x (tally_of s e) ≡ refuse why (tally_of s e)
       → RespondEnsures c s s e x (refused_by why e)
   unfolding refuse
@@ -117,6 +122,7 @@ module _ {c s : List ℕ} {e : Contents} (p : EngineInvariant c s e) where
     small = tt;
     is = rw q refl;
     refused = λ no. record { nodes = refl; registers = refl };
+    forgets = rw q tt;
   }
 
   module _ {a : ℕ} (g : GetEnsures e.registers.all a empty_register) where
@@ -185,29 +191,20 @@ module _ {c' s s' : List ℕ} {e : Contents} {d : ℕ} {r : Reply} where
         forgets = n h.forgets;
       }
 
-  module _ {c : List ℕ} (p : EngineInvariant c s e) where
-    pub responds_put : {w : ℕ} → w < modulus
-        → SettleEnsures c s c' s' e e.state d (Ok (record { weight = w; node = 0 })) r
-        → RespondEnsures c' s s' e (call.Put d w) r
-    unfolding answer return tally_of
-    responds_put {w} small h =
-        sets_register_as {f = return (constant indices (to_weight w))} (λ z. z) refl (sets_register_constant p small h)
+  pub responds_put : {w : ℕ} → SetsRegister c' s s' e d (return (constant indices (to_weight w))) r
+      → RespondEnsures c' s s' e (call.Put d w) r
+  unfolding answer return tally_of
+  responds_put h = sets_register_as (λ z. z) refl h
 
-    pub responds_gate : {c₁ s₁ : List ℕ} {t : State} {m : Result Edge steps.Full} {g : Gate} → c₁ ≡ c
-        → Refines s s₁ e.state t (build (gate_tensor indices g)) m
-        → SettleEnsures c₁ s₁ c' s' e t d m r
-        → RespondEnsures c' s s' e (call.Gate d g) r
-    unfolding answer tally_of
-    responds_gate {g = g} k w h = sets_register_as {f = build (gate_tensor indices g)} (λ z. z) refl
-        (sets_register_step p _ k w h)
+  pub responds_gate : {g : Gate} → SetsRegister c' s s' e d (build (gate_tensor indices g)) r
+      → RespondEnsures c' s s' e (call.Gate d g) r
+  unfolding answer tally_of
+  responds_gate h = sets_register_as (λ z. z) refl h
 
-    pub responds_unit : {c₁ s₁ : List ℕ} {t : State} {m : Result Edge steps.Full} {n : ℕ} → c₁ ≡ c
-        → Refines s s₁ e.state t (build (unit_tensor indices n)) m
-        → SettleEnsures c₁ s₁ c' s' e t d m r
-        → RespondEnsures c' s s' e (call.Unit d n) r
-    unfolding answer tally_of
-    responds_unit {n = n} k w h = sets_register_as {f = build (unit_tensor indices n)} (λ z. z) refl
-        (sets_register_step p _ k w h)
+  pub responds_unit : {n : ℕ} → SetsRegister c' s s' e d (build (unit_tensor indices n)) r
+      → RespondEnsures c' s s' e (call.Unit d n) r
+  unfolding answer tally_of
+  responds_unit h = sets_register_as (λ z. z) refl h
 
   module _ {a b : ℕ} {x y : Edge} (i : GetEnsures e.registers.all a (Some x))
       (j : GetEnsures e.registers.all b (Some y)) where

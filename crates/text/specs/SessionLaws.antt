@@ -79,20 +79,26 @@ module _ {d : ℕ} (c : Capacity) (t : Tally d) where
   kept_unless true r y = λ e. refl
   kept_unless false r y = kept_settle r y
 
-  pub refused_leaves : (x : Call) → IsErr (answer c x t).0 → (answer c x t).1 ≡ t
+  pub refused_call_leaves : (x : Call) → IsErr (answer c x t).0 → (answer c x t).1 ≡ t
   unfolding answer accept refuse
-  refused_leaves (call.Put r w) = kept_settle r _
-  refused_leaves (call.Gate r g) = kept_settle r _
-  refused_leaves (call.Unit r n) = kept_settle r _
-  refused_leaves (call.Add r a b) = kept_register a _ (λ A. kept_register b _ (λ B. kept_settle r _))
-  refused_leaves (call.Cont r a b m) = kept_register a _ (λ A. kept_register b _ (λ B. kept_settle r _))
-  refused_leaves (call.Low r a k) = kept_register a _ (λ A. kept_unless (depends (k - 1) A) r _)
-  refused_leaves (call.Drop a) = kept_register a _ (λ A e. absurd (false≢true e))
-  refused_leaves call.Collect = λ e. absurd (false≢true e)
-  refused_leaves (call.At a v) = kept_register a _ (λ A e. refl)
-  refused_leaves (call.Cmp a b) = kept_register a _ (λ A. kept_register b _ (λ B e. refl))
-  refused_leaves (call.On a) = kept_register a _ (λ A e. refl)
-  refused_leaves (call.Lows r a m) = kept_register a _ (λ A. kept_unless (clash (bits m) A) r _)
+  refused_call_leaves (call.Put r w) = kept_settle r _
+  refused_call_leaves (call.Gate r g) = kept_settle r _
+  refused_call_leaves (call.Unit r n) = kept_settle r _
+  refused_call_leaves (call.Add r a b) = kept_register a _ (λ A. kept_register b _ (λ B. kept_settle r _))
+  refused_call_leaves (call.Cont r a b m) = kept_register a _ (λ A. kept_register b _ (λ B. kept_settle r _))
+  refused_call_leaves (call.Low r a k) = kept_register a _ (λ A. kept_unless (depends (k - 1) A) r _)
+  refused_call_leaves (call.Drop a) = kept_register a _ (λ A e. absurd (false≢true e))
+  refused_call_leaves call.Collect = λ e. absurd (false≢true e)
+  refused_call_leaves (call.At a v) = kept_register a _ (λ A e. refl)
+  refused_call_leaves (call.Cmp a b) = kept_register a _ (λ A. kept_register b _ (λ B e. refl))
+  refused_call_leaves (call.On a) = kept_register a _ (λ A e. refl)
+  refused_call_leaves (call.Lows r a m) = kept_register a _ (λ A. kept_unless (clash (bits m) A) r _)
+
+  -- also a line that its reader refused
+  pub refused_leaves : (x : Result Call Refusal) → IsErr (answer_read c x t).0 → (answer_read c x t).1 ≡ t
+  unfolding refuse
+  refused_leaves (Ok x) = refused_call_leaves x
+  refused_leaves (Err r) = λ e. refl
 
 -- The tally's set never exceeds the capacity, so `put`, which puts nothing in, is never refused as full.
 

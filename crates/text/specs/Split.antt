@@ -1,6 +1,6 @@
 -- The parts of a text as the code finds them.
-use Rattle.std.specs.Prelude.{cond, [], ◌∷◌, List, ◌≡◌, ℕ, ◌-◌, suc, ◌+◌, ◌≤◌, take, drop, length, eqb}
-use Rattle.text.specs.Text.{Bytes, fields}
+use Rattle.std.specs.Prelude.{cond, [], ◌∷◌, ◌++◌, List, ◌≡◌, ℕ, ◌-◌, suc, ◌+◌, ◌≤◌, ◌<◌, take, drop, length, eqb}
+use Rattle.text.specs.Text.{Bytes, fields, tab, LF}
 
 -- the part of a text from a to e, `&s[a..e]`
 abbrev pub part : Bytes → ℕ → ℕ → Bytes
@@ -29,3 +29,18 @@ after_tab (x ∷ s) = fields s
 -- the fields after the one that ends at e
 unfoldable pub fields_after : Bytes → ℕ → List Bytes
 fields_after s e = after_tab (drop e s)
+
+-- the field after the tab at e, which ends at f
+pub record FieldAfter (s : Bytes) (e : ℕ) (field : Bytes) (f : ℕ) : Type 0 where
+  pub inside : e < length s
+  pub ends : Ends tab s (e + 1) f
+  pub is : field ≡ part s (e + 1) f
+
+-- the text has no b
+abbrev pub Without : ℕ → Bytes → Type 0
+Without b s = count_before b s ≡ length s
+
+-- "A text is split at LF": the first line, and what comes after its LF
+pub record FirstLine (s line rest : Bytes) : Type 0 where
+  pub is : s ≡ line ++ (LF ∷ rest)
+  pub plain : Without LF line

@@ -1,22 +1,24 @@
 -- Laws of Split: lines and fields, one after the other.
 use Rattle.std.specs.Prelude.{◌≡◌, refl, List, ◌∷◌, [], ◌++◌, Bool, true, false, cond, ℕ, ◌+◌, ◌-◌, ◌≤◌, zero, suc, ◌<◌}
 use Rattle.std.specs.Prelude.{drop, take, get_or, length, eqb, ltb, Option, Some, None}
+use Rattle.std.proofs.lemmas.List.{get_or-drop}
 use Rattle.std.proofs.lemmas.List.Recursion.{is_position_or_len}
 use Rattle.std.specs.List.{position_or_len, slice_split, onto_first}
 use Rattle.std.specs.Option.{unwrap_or}
 use Rattle.std.specs.Fn.{CalledAt}
 use Rattle.std.specs.Slice.Iter.{split_rest, split_done, split_callee, split_steps}
+use Rattle.std.specs.Iterator.{Yields}
 use Rattle.std.proofs.lemmas.Iterator.{YieldsList}
-use Rattle.std.proofs.lemmas.Iterator.Consumers.{YieldsList-at}
+use Rattle.std.proofs.lemmas.Iterator.Consumers.{YieldsList-at, YieldsList-turn, YieldsList-end}
 use Rattle.std.proofs.lemmas.Iterator.Splits.{YieldsList-from_slice_split}
 use denote.Param.Members.{Mut}
 use denote.Ref.{Bor}
 use Rattle.std.proofs.Common.{ap, sym, ◌∙◌, arith, add-one, drop_of_length-le, length-drop, drop-drop, drop-cons}
-use Rattle.std.proofs.Common.{take_all}
-use borrow.Author.Tests.{lt-ltb, le-ltb}
+use Rattle.std.proofs.Common.{take_all, length-take-le}
+use borrow.Author.Tests.{lt-ltb, le-ltb, eqb-true}
 use Rattle.std.proofs.Math.Decide.{dec_lt}
 use Rattle.text.specs.Text.{Bytes, onto, parts, fields, tab, LF, lines, same_bytes}
-use Rattle.text.specs.Split.{count_before, end_from, Ends, part, after_tab, fields_after}
+use Rattle.text.specs.Split.{count_before, end_from, Ends, part, after_tab, fields_after, Without, FirstLine}
 
 -- lists taken apart
 
@@ -48,9 +50,7 @@ take_more (suc n) [] e = absurd (let z : ◌≡◌ {A = ℕ} 0 1 = cc in omega a
 take_more (suc n) (y ∷ l) e = let z : suc n + 1 ≡ suc (n + 1) = omega arith in rw z (ap (λ k. y ∷ k) (take_more n l e))
 
 pub get_or_next : {A : Type 0} (n : ℕ) (l : List A) (d : A) {x : A} {xs : List A} → drop n l ≡ x ∷ xs → get_or l n d ≡ x
-get_or_next zero l d e = rw e
-get_or_next (suc n) [] d e = absurd (let z : ◌≡◌ {A = ℕ} 0 1 = cc in omega arith)
-get_or_next (suc n) (y ∷ l) d e = get_or_next n l d e
+get_or_next n l d e = let z : n + 0 ≡ n = omega arith in rw (z, e) at (sym (get_or-drop n l 0 d))
 
 pub drop_one : {A : Type 0} (n : ℕ) (l : List A) {x : A} {xs : List A} → drop n l ≡ x ∷ xs → drop (n + 1) l ≡ xs
 drop_one n l e = rw (← drop-drop 1 n l, e)
@@ -187,6 +187,19 @@ fields_yielded g l e h q r d k o =
     rw (rest_more l e h, fields_split (drop (e + 1) l))
     (YieldsList-at q (YieldsList-from_slice_split g (λ x. eqb x tab) (drop (e + 1) l) (r ∙ whole) d k o))
 
+-- .. one after the other, of which xs have come
+module _ {F : Type 0} {s t : _} (g : Mut F (Bor ℕ × Unit {0}) Bool) {f : F} (l : Bytes) (e : ℕ) (h : e < length l)
+    (q : t ≡ s) (r : split_rest s ≡ take (length l - (e + 1)) (drop (e + 1) l)) (d : split_done s ≡ false)
+    (k : split_callee s ≡ f) (same : (x : ℕ) (b : Bool) (q : F) → CalledAt g f x b q → (q ≡ f) × (b ≡ eqb x tab))
+    (xs : List (Bor Bytes)) (u : _) (y : Yields (split_steps g) t xs u) where
+  pub field_turn : {o : Option (Bor Bytes)} (w : _) (x : Bor Bytes) → o ≡ Some x → split_steps g u o w
+      → (length xs < length (fields_after l e)) × (x.now ≡ get_or (fields_after l e) (length xs) x.now)
+  field_turn w x is c = YieldsList-turn (fields_yielded g l e h q r d k same) xs u y _ _ x is c
+
+  pub field_end : {o : Option (Bor Bytes)} (w : _) → o ≡ None → split_steps g u o w
+      → length xs ≡ length (fields_after l e)
+  field_end w is c = (YieldsList-end (fields_yielded g l e h q r d k same) xs u y _ _ is c).1
+
 -- The fields from a on are the one that begins there and those after it.
 pub fields_first : {s : Bytes} {a e : ℕ} → a ≤ length s → Ends tab s a e
     → fields (drop a s) ≡ part s a e ∷ fields_after s e
@@ -240,3 +253,44 @@ lines_count (x ∷ s) = go (eqb x LF) (lines_count s)
         → length (cond t ([] ∷ parts LF [] s) (onto x (parts LF [] s))) ≤ suc (length s)
     go true h = omega arith
     go false h = omega (arith, onto_length x (parts LF [] s))
+
+-- the first line of a text that has an LF
+
+first_parted : (b : ℕ) (s : Bytes) → count_before b s < length s
+    → s ≡ take (count_before b s) s ++ (b ∷ drop (suc (count_before b s)) s)
+unfolding count_before
+first_parted b [] h = absurd (omega arith)
+first_parted b (x ∷ s) h = go (eqb x b) refl h (first_parted b s)
+  where
+    go : (t : Bool) → eqb x b ≡ t → cond t 0 (suc (count_before b s)) < suc (length s)
+        → (count_before b s < length s → s ≡ take (count_before b s) s ++ (b ∷ drop (suc (count_before b s)) s))
+        → x ∷ s ≡ take (cond t 0 (suc (count_before b s))) (x ∷ s)
+        ++ (b ∷ drop (suc (cond t 0 (suc (count_before b s)))) (x ∷ s))
+    go true e h rec = ap (λ y. y ∷ s) (eqb-true x b e)
+    go false e h rec = ap (λ k. x ∷ k) (rec (omega arith))
+
+first_plain : (b : ℕ) (s : Bytes) → count_before b (take (count_before b s) s) ≡ count_before b s
+unfolding count_before
+first_plain b [] = refl
+first_plain b (x ∷ s) = go (eqb x b) refl (first_plain b s)
+  where
+    go : (t : Bool) → eqb x b ≡ t → count_before b (take (count_before b s) s) ≡ count_before b s
+        → count_before b (take (cond t 0 (suc (count_before b s))) (x ∷ s)) ≡ cond t 0 (suc (count_before b s))
+    go true e rec = refl
+    go false e rec = rw e (ap suc rec)
+
+pub no_line : {s : Bytes} {e : ℕ} → Ends LF s 0 e → e ≡ length s → Without LF s
+unfolding end_from
+no_line r h = omega (arith, r.place)
+
+pub first_line_parted : {s : Bytes} {e : ℕ} → Ends LF s 0 e → e < length s
+    → FirstLine s (take e s) (take (length s - (e + 1)) (drop (e + 1) s))
+unfolding end_from
+first_line_parted {s} {e} r h =
+    let n : e ≡ count_before LF s = omega (arith, r.place) in
+    let rest : take (length s - (e + 1)) (drop (e + 1) s) ≡ drop (e + 1) s =
+    take_all _ _ (omega (arith, length-drop (e + 1) s)) in
+    record {
+      is = rw (rest, n, add-one (count_before LF s)) (first_parted LF s (omega arith));
+      plain = rw n (first_plain LF s ∙ sym (length-take-le _ s (upto_most LF s)));
+    }

@@ -73,17 +73,17 @@ list_tensor d n gs = register_tensor 0 (perform unlimited (list_calls 0 n 1 gs) 
 
 -- "then `cmp 0 1`": what its answer says. Its last four cases do not come: `cmp` is asked of filled registers
 -- (ruling_judged in VerdictSessionLaws).
-abbrev pub ruling_of_answer : Result Answer Refusal → Comparison
-ruling_of_answer (Ok (Compared r)) = r
-ruling_of_answer (Ok (Done n)) = Differ
-ruling_of_answer (Ok (Value w)) = Differ
-ruling_of_answer (Ok (Mask m)) = Differ
-ruling_of_answer (Err r) = Differ
+abbrev pub comparison_of : Result Answer Refusal → Comparison
+comparison_of (Ok (Compared r)) = r
+comparison_of (Ok (Done n)) = Differ
+comparison_of (Ok (Value w)) = Differ
+comparison_of (Ok (Mask m)) = Differ
+comparison_of (Err r) = Differ
 
 -- "8 full, at the line being run". No other refusal comes (session_runs in VerdictSessionLaws).
 unfoldable pub ruling_at_end : {d : ℕ} → Capacity → PerformResult d → Ruling
 ruling_at_end c (refused_at line r) = no_at Full line
-ruling_at_end c (ended_with t) = Ok (ruling_of_answer (answer c (call.Cmp 0 1) t).0)
+ruling_at_end c (ended_with t) = Ok (comparison_of (answer c (call.Cmp 0 1) t).0)
 
 -- "All lines are read before any gate runs; the first faulty line decides."
 unfoldable pub ruling_of_reading : (d : ℕ) → Capacity → Reading → Ruling

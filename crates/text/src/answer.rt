@@ -1,4 +1,5 @@
-// A session's answers, and their printed bytes.
+// A session's answers, and their printed bytes. (They go to places in the output that was lent: no heap, and the C
+// interface gives the slice.)
 ghost use Rattle.std.specs.Prelude.{◌≡◌, ◌+◌, ◌≤◌, ◌<◌, length, Ok, Err};
 ghost use Rattle.text.specs.Limits.{answer_room, last_mask};
 ghost use Rattle.text.specs.Answer.{printed, SmallAnswer, AnswerWritten, labelled_line};

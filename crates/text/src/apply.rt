@@ -8,7 +8,8 @@ ghost use Rattle.diagram.specs.Top.{Free};
 ghost use Rattle.diagram.specs.Diagram.{tensor, Ready, KeepsLoans, DoesCached};
 ghost use Rattle.text.specs.Limits.{most_qubits};
 ghost use Rattle.text.specs.Names.{Placed};
-ghost use Rattle.text.specs.Qubits.{qubit_list, AllBelowEight, Rising};
+ghost use Rattle.diagram.specs.Gate.{AllBelowEight};
+ghost use Rattle.text.specs.Qubits.{qubit_list, Rising};
 ghost use Rattle.text.specs.Apply.{Renamable, rename_step, contract_step, apply_step};
 
 use crate::qubits;
@@ -46,7 +47,7 @@ fn contract_rename(d: &mut Diagram, a: Edge, x: Edge, qubits: Shape) -> Result<E
     ensures loans { KeepsLoans d.old d.new }
     ensures does { DoesCached d.old d.new (contract_step (qubit_list qubits) (tensor d.old x) (tensor d.old a)) result }
 {
-    let m = qubits::middles(qubits) as u64;
+    let m = qubits.middles();
     let e = d.contract(a, x, m)?;
     rename_all(d, e, qubits)
 }

@@ -1,8 +1,8 @@
 // Calls: the words and numbers of a line, checked field by field from the left.
 #![tactic(auto, unfolding(crate::specs::Args::by_count, crate::specs::Call::call_of))]
 
-ghost use Rattle.std.specs.Prelude.{◌≡◌, ◌≤◌, Ok};
-ghost use Rattle.text.specs.Call.{check_range, check_register, check_lowered, call_of, refusal_number};
+ghost use Rattle.std.specs.Prelude.{◌≡◌, ◌≤◌, Ok, Some};
+ghost use Rattle.text.specs.Call.{check_range, check_register, check_lowered, call_of, refusal_number, printed_call};
 ghost use Rattle.text.specs.Limits.{last_weight};
 
 use crate::args::Args;
@@ -13,6 +13,7 @@ use crate::words::Word;
 use diagram::gate::{Gate, QubitCount};
 use diagram::node::Index;
 use diagram::registers::RegisterNumber;
+use std::fmt;
 
 // Why a line is refused, with document 01's number.
 #[derive(Clone, Copy)]
@@ -50,6 +51,27 @@ pub enum Call {
     Cmp(RegisterNumber, RegisterNumber),
     On(RegisterNumber),
     Lows(RegisterNumber, RegisterNumber, Mask),
+}
+
+impl fmt::Display for Call {
+    ghost output = { λ x. Some (printed_call x) };
+
+    fn fmt<W: fmt::Write>(&self, f: &mut fmt::Formatter<W>) -> fmt::Result {
+        match self {
+            Call::Put(d, w) => write!(f, "put {d} {w}"),
+            Call::Gate(d, g) => write!(f, "gate {d} {g}"),
+            Call::Unit(d, n) => write!(f, "unit {d} {n}"),
+            Call::Add(d, a, b) => write!(f, "add {d} {a} {b}"),
+            Call::Cont(d, a, b, m) => write!(f, "cont {d} {a} {b} {m}"),
+            Call::Low(d, a, k) => write!(f, "low {d} {a} {k}"),
+            Call::Drop(a) => write!(f, "drop {a}"),
+            Call::Collect => write!(f, "collect"),
+            Call::At(a, v) => write!(f, "at {a} {v}"),
+            Call::Cmp(a, b) => write!(f, "cmp {a} {b}"),
+            Call::On(a) => write!(f, "on {a}"),
+            Call::Lows(d, a, m) => write!(f, "lows {d} {a} {m}"),
+        }
+    }
 }
 
 // Is x between least and most?

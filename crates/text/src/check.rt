@@ -5,10 +5,11 @@ ghost use Rattle.text.specs.Ruling.{fault_number};
 ghost use Rattle.text.specs.Names.{one_qubit, two_qubits};
 ghost use Rattle.text.specs.Check.{HeaderRead, ItemRead, IsGate, GateRead, TextRead};
 ghost use Rattle.text.specs.Check.{parting_after, check_lines, one_qubit_item, two_qubit_item};
-ghost use Rattle.text.specs.Check.{gate_item_of, item_of, header_numbers};
+ghost use Rattle.text.specs.Check.{gate_item_of, item_of, header_numbers, fault_of};
 
 use crate::args::Args;
 use crate::limits::{LineNumber, MOST_DIGITS, MOST_QUBITS};
+use crate::names::Misplaced;
 use crate::{args, names, split};
 use diagram::gate::{Gate, Qubit, QubitCount};
 
@@ -28,6 +29,17 @@ impl Fault {
         ensures { (result ≡ fault_number self) × (result ≤ 14) }
     {
         self as usize
+    }
+}
+
+impl From<Misplaced> for Fault {
+    ghost from_gives = { λ m f. f ≡ fault_of m };
+
+    fn from(m: Misplaced) -> Fault {
+        match m {
+            Misplaced::Qubit => Fault::Qubit,
+            Misplaced::Equal => Fault::Equal,
+        }
     }
 }
 
@@ -57,23 +69,14 @@ fn one_qubit_item(n: QubitCount, name: &[u8], q: Qubit) -> Result<Item, Fault>
     ensures { result ≡ one_qubit_item n q (one_qubit name.now q) }
 {
     let g = names::one_qubit(name, q).ok_or(Fault::Line)?;
-    if n <= q {
-        return Err(Fault::Qubit);
-    }
-    Ok(Item::Gate(g))
+    Ok(Item::Gate(names::placed(g, n)?))
 }
 
 fn two_qubit_item(n: QubitCount, name: &[u8], p: Qubit, q: Qubit) -> Result<Item, Fault>
     ensures { result ≡ two_qubit_item n p q (two_qubits name.now p q) }
 {
     let g = names::two_qubits(name, p, q).ok_or(Fault::Line)?;
-    if n <= p || n <= q {
-        return Err(Fault::Qubit);
-    }
-    if p == q {
-        return Err(Fault::Equal);
-    }
-    Ok(Item::Gate(g))
+    Ok(Item::Gate(names::placed(g, n)?))
 }
 
 #[tactic(auto, unfolding(crate::specs::Args::by_count, crate::specs::Check::gate_item_of))]
@@ -158,7 +161,8 @@ fn check_lines(text: &[u8], start: usize, n: QubitCount) -> Result<Checked, Faul
     let mut a = start;
     let mut count = 1;
     let mut parting = None;
-    // The place goes from line to line, past bytes that `split::end` has passed.
+    // The place goes from line to line, past bytes that `split::end` has passed. (`split` would give an empty part
+    // after the last LF, which is no line, and does not say that it is the last.)
     while a < text.len() {
         let e = split::end(text, a, b'\n');
         let line = count + 1;

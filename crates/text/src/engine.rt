@@ -3,7 +3,7 @@ ghost use Rattle.std.specs.Prelude.{◌≡◌, ◌<◌};
 ghost use Rattle.diagram.specs.Restore.{RollbackRequires};
 ghost use Rattle.diagram.specs.Diagram.{KeepsLoans};
 ghost use Rattle.text.specs.Limits.{register_count};
-ghost use Rattle.text.specs.Engine.{KeepsEngine, Starts, RefusesFull, MaySettle, Settles};
+ghost use Rattle.text.specs.Engine.{KeepsEngine, IsEngine, Starts, RefusesFull, MaySettle, Settles, MaySet, SetsBy};
 
 use crate::answer::Answer;
 use crate::call::Refusal;
@@ -41,7 +41,7 @@ impl<'b, 'a> Engine<'b, 'a> {
 
     // "Register d is set last": to the edge of a step that was done; or the step did not fit. The state is that before
     // the step.
-    pub(crate) fn settle(
+    fn settle(
         &mut self,
         before: State,
         d: RegisterNumber,
@@ -56,5 +56,20 @@ impl<'b, 'a> Engine<'b, 'a> {
         };
         self.registers.put(d, e);
         Ok(Answer::Done(self.diagram.state.count))
+    }
+
+    // Register d set by a step, which is made from the diagram.
+    pub(crate) fn set<F: FnOnce(&mut Diagram<'a>) -> Result<Edge, Full>>(
+        &mut self,
+        d: RegisterNumber,
+        step: F,
+    ) -> Result<Answer, Refusal>
+        requires { IsEngine self.old × ((d < register_count) × MaySet F.FnOnce step self.old) }
+        ensures loans { KeepsEngine self.old self.new }
+        ensures sets { SetsBy F.FnOnce step self.old self.new d result }
+    {
+        let before = self.diagram.state;
+        let made = step(self.diagram);
+        self.settle(before, d, made)
     }
 }

@@ -3,34 +3,40 @@
 
 ghost use Rattle.std.specs.Prelude.{◌≡◌, ◌≤◌, length, Some};
 ghost use Rattle.text.specs.Split.{fields_after};
-ghost use Rattle.text.specs.Gate.{one_qubit_call, two_qubit_call, gate_call_of, gate_call_fields};
+ghost use Rattle.text.specs.Gate.{refusal_of, one_qubit_call, two_qubit_call, gate_call_of, gate_call_fields};
 ghost use Rattle.text.specs.Names.{one_qubit, two_qubits};
 
 use crate::args::Args;
 use crate::call::{Call, Refusal};
-use crate::limits::{LAST_QUBIT, MOST_DIGITS};
+use crate::limits::{MOST_DIGITS, MOST_QUBITS};
+use crate::names::Misplaced;
 use crate::{args, call, names, number, split};
 use diagram::gate::Qubit;
 use diagram::registers::RegisterNumber;
+
+impl From<Misplaced> for Refusal {
+    ghost from_gives = { λ m r. r ≡ refusal_of m };
+
+    fn from(m: Misplaced) -> Refusal {
+        match m {
+            Misplaced::Qubit => Refusal::Range,
+            Misplaced::Equal => Refusal::Equal,
+        }
+    }
+}
 
 fn one_qubit_call(d: RegisterNumber, name: &[u8], q: Qubit) -> Result<Call, Refusal>
     ensures { result ≡ one_qubit_call d q (one_qubit name.now q) }
 {
     let g = names::one_qubit(name, q).ok_or(Refusal::Name)?;
-    call::check_range(q, 0, LAST_QUBIT)?;
-    Ok(Call::Gate(d, g))
+    Ok(Call::Gate(d, names::placed(g, MOST_QUBITS)?))
 }
 
 fn two_qubit_call(d: RegisterNumber, name: &[u8], p: Qubit, q: Qubit) -> Result<Call, Refusal>
     ensures { result ≡ two_qubit_call d p q (two_qubits name.now p q) }
 {
     let g = names::two_qubits(name, p, q).ok_or(Refusal::Name)?;
-    call::check_range(p, 0, LAST_QUBIT)?;
-    call::check_range(q, 0, LAST_QUBIT)?;
-    if p == q {
-        return Err(Refusal::Equal);
-    }
-    Ok(Call::Gate(d, g))
+    Ok(Call::Gate(d, names::placed(g, MOST_QUBITS)?))
 }
 
 fn make(d: RegisterNumber, name: &[u8], qubits: Args) -> Result<Call, Refusal>
@@ -54,17 +60,9 @@ pub(crate) fn read(line: &[u8], e: usize) -> Result<Call, Refusal>
     requires { e ≤ length line.now }
     ensures { result ≡ gate_call_fields (fields_after line.now e) }
 {
-    if line.len() <= e {
-        return Err(Refusal::Malformed);
-    }
-    let a = e + 1;
-    let f = split::end(line, a, b'\t');
-    if line.len() <= f {
-        return Err(Refusal::Malformed);
-    }
-    let b = f + 1;
-    let g = split::end(line, b, b'\t');
-    let d = number::read(&line[a..f], MOST_DIGITS).ok_or(Refusal::Malformed)?;
+    let (d, f) = split::field_after(line, e).ok_or(Refusal::Malformed)?;
+    let (name, g) = split::field_after(line, f).ok_or(Refusal::Malformed)?;
+    let d = number::read(d, MOST_DIGITS).ok_or(Refusal::Malformed)?;
     let qubits = args::after(line, g, MOST_DIGITS).ok_or(Refusal::Malformed)?;
-    make(d, &line[b..g], qubits)
+    make(d, name, qubits)
 }

@@ -2,15 +2,15 @@
 // compared.
 ghost use Rattle.std.specs.Prelude.{◌≡◌, ◌≤◌, Err};
 ghost use Rattle.text.specs.Limits.{most_qubits};
-ghost use Rattle.text.specs.Check.{GoodText};
+ghost use Rattle.text.specs.Check.{GoodText, CheckedInRange};
 ghost use Rattle.text.specs.Ruling.{no_at};
 ghost use Rattle.text.specs.List.{IsLists, ListAhead};
-ghost use Rattle.text.specs.VerdictSession.{ruling_of_answer};
+ghost use Rattle.text.specs.VerdictSession.{comparison_of};
 ghost use Rattle.text.specs.Judge.{JudgesSecond, JudgeEnsures, VerdictEnsures};
 
 use crate::answer::Answer;
 use crate::call::Refusal;
-use crate::check::{Fault, FaultAt};
+use crate::check::{Checked, Fault, FaultAt};
 use crate::engine::Engine;
 use crate::limits::{LineNumber, VERDICT_ROOM};
 use crate::list::Lists;
@@ -18,11 +18,10 @@ use crate::ruling::VerdictResult;
 use crate::{check, ruling};
 use diagram::compare::Comparison;
 use diagram::diagram::Diagram;
-use diagram::gate::QubitCount;
 use diagram::registers::Registers;
 
-fn ruling_of(answer: Result<Answer, Refusal>) -> Comparison
-    ensures { result ≡ ruling_of_answer answer }
+fn comparison_of(answer: Result<Answer, Refusal>) -> Comparison
+    ensures { result ≡ comparison_of answer }
 {
     match answer {
         Ok(Answer::Compared(comparison)) => comparison,
@@ -47,19 +46,17 @@ fn second(lists: &mut Lists, count: usize) -> Result<Comparison, FaultAt>
     ensures { JudgesSecond lists.old count result }
 {
     lists.run(1, count).map_err(|_| full_at(lists.line))?;
-    Ok(ruling_of(lists.engine.cmp(0, 1)))
+    Ok(comparison_of(lists.engine.cmp(0, 1)))
 }
 
-// Both lists of a good text, whose `=` is at the line `parting`, of `count` lines.
+// Both lists of a good text.
 fn run(
     text: &[u8],
     store: &mut [u8],
     cache: &mut [u64],
-    n: QubitCount,
-    parting: LineNumber,
-    count: usize,
+    good: Checked,
 ) -> Result<Comparison, FaultAt>
-    requires { GoodText text.now n parting count × ((1 ≤ n) × (n ≤ most_qubits)) }
+    requires { GoodText text.now good.n good.parting good.count × CheckedInRange good }
     ensures { JudgeEnsures text.now store.old result }
 {
     let mut diagram = Diagram::over(store, cache);
@@ -70,13 +67,15 @@ fn run(
     engine.start();
     let mut lists = Lists {
         text,
-        qubits: n,
+        qubits: good.n,
         line: 0,
         place: 0,
         engine,
     };
-    lists.run(0, parting - 2).map_err(|_| full_at(lists.line))?;
-    second(&mut lists, count - parting)
+    lists
+        .run(0, good.parting - 2)
+        .map_err(|_| full_at(lists.line))?;
+    second(&mut lists, good.count - good.parting)
 }
 
 // "All lines are read before any gate runs; the first faulty line decides."
@@ -84,7 +83,7 @@ fn judge(text: &[u8], store: &mut [u8], cache: &mut [u64]) -> Result<Comparison,
     ensures { JudgeEnsures text.now store.old result }
 {
     let good = check::check(text)?;
-    run(text, store, cache, good.n, good.parting, good.count)
+    run(text, store, cache, good)
 }
 
 // "Fewer than 32 output bytes returns 9 and writes nothing, before any reading; otherwise the code is 0, also with

@@ -2,7 +2,7 @@
 ghost use Rattle.std.specs.Prelude.{◌≡◌, ◌+◌, ◌≤◌, ◌<◌};
 ghost use Rattle.text.specs.Limits.{most_qubits};
 ghost use Rattle.text.specs.List.{IsLists, IsAhead, IsGateAhead, GatesAhead, ListAhead};
-ghost use Rattle.text.specs.List.{KeepsText, Opens, RunsGate, RunsGates, RunsList};
+ghost use Rattle.text.specs.List.{KeepsText, PassesLine, Opens, RunsGate, RunsGates, RunsList};
 
 use crate::call::{Call, Refusal};
 use crate::engine::Engine;
@@ -23,6 +23,19 @@ pub struct Lists<'t, 'b, 'a> {
 }
 
 impl<'t, 'b, 'a> Lists<'t, 'b, 'a> {
+    // The line at hand, which is passed.
+    fn next_line(&mut self) -> &'t [u8]
+        requires { IsAhead self.old }
+        ensures text { KeepsText self.old self.new }
+        ensures passes { PassesLine self.old self.new result.now }
+    {
+        let a = self.place;
+        let e = split::end(self.text, a, b'\n');
+        self.line += 1;
+        self.place = e + 1;
+        &self.text[a..e]
+    }
+
     // "`unit` in 0", at the header, or in 1, at `=`.
     fn open(&mut self, r: RegisterNumber) -> Result<(), Refusal>
         requires { IsLists self.old × (IsAhead self.old ×
@@ -30,9 +43,7 @@ impl<'t, 'b, 'a> Lists<'t, 'b, 'a> {
         ensures text { KeepsText self.old self.new }
         ensures opens { Opens self.old self.new r result }
     {
-        let e = split::end(self.text, self.place, b'\n');
-        self.line += 1;
-        self.place = e + 1;
+        self.next_line();
         self.engine.perform(Call::Unit(r, self.qubits))
     }
 
@@ -42,11 +53,8 @@ impl<'t, 'b, 'a> Lists<'t, 'b, 'a> {
         ensures text { KeepsText self.old self.new }
         ensures runs { RunsGate self.old self.new r result }
     {
-        let a = self.place;
-        let e = split::end(self.text, a, b'\n');
-        let g = check::gate(self.qubits, &self.text[a..e]);
-        self.line += 1;
-        self.place = e + 1;
+        let line = self.next_line();
+        let g = check::gate(self.qubits, line);
         self.engine.perform_gate(r, g)
     }
 

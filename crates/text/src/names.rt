@@ -1,9 +1,9 @@
-// The gates' names. (Gates on one qubit and on two are apart here, in `gate` and in `check`: they differ in how many
-// checks there are, not in a type or a number. Why no `match`: words.rt.)
+// The gates' names, and where a gate may stand. (Gates on one qubit and on two are apart here, in `gate` and in
+// `check`: a name is looked for among those of its count. Why no `match`: words.rt.)
 ghost use Rattle.std.specs.Prelude.{◌≡◌};
-ghost use Rattle.text.specs.Names.{one_qubit, two_qubits};
+ghost use Rattle.text.specs.Names.{one_qubit, two_qubits, placed_gate};
 
-use diagram::gate::{Gate, Qubit};
+use diagram::gate::{Gate, Qubit, QubitCount, Shape};
 
 // The gate of this name on one qubit, if it is a name.
 #[tactic(auto, unfolding(crate::specs::Names::one_qubit))]
@@ -44,5 +44,25 @@ pub(crate) fn two_qubits(s: &[u8], p: Qubit, q: Qubit) -> Option<Gate>
         Some(Gate::Sw(p, q))
     } else {
         None
+    }
+}
+
+// Why a gate may not stand: a qubit that is not there, or the same one twice.
+#[derive(Clone, Copy)]
+pub(crate) enum Misplaced {
+    Qubit,
+    Equal,
+}
+
+// The gate, where its qubits are below n and differ.
+#[tactic(auto, unfolding(crate::specs::Names::placed_gate))]
+pub(crate) fn placed(g: Gate, n: QubitCount) -> Result<Gate, Misplaced>
+    ensures { result ≡ placed_gate n g }
+{
+    match g.shape() {
+        Shape::One(q) if n <= q => Err(Misplaced::Qubit),
+        Shape::Two(p, q) if n <= p || n <= q => Err(Misplaced::Qubit),
+        Shape::Two(p, q) if p == q => Err(Misplaced::Equal),
+        _ => Ok(g),
     }
 }

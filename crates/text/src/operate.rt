@@ -28,9 +28,8 @@ impl<'b, 'a> Engine<'b, 'a> {
         ensures loans { KeepsEngine self.old self.new }
         ensures responds { Responds self.old self.new (call.Put d w) result }
     {
-        let before = self.diagram.state;
         let weight = w as u64;
-        self.settle(before, d, Ok(Edge { weight, node: 0 }))
+        self.set(d, |_| Ok(Edge { weight, node: 0 }))
     }
 
     pub(crate) fn gate(&mut self, d: RegisterNumber, g: Gate) -> Result<Answer, Refusal>
@@ -38,9 +37,7 @@ impl<'b, 'a> Engine<'b, 'a> {
         ensures loans { KeepsEngine self.old self.new }
         ensures responds { Responds self.old self.new (call.Gate d g) result }
     {
-        let before = self.diagram.state;
-        let step = self.diagram.gate(g);
-        self.settle(before, d, step)
+        self.set(d, |diagram| diagram.gate(g))
     }
 
     pub(crate) fn unit(&mut self, d: RegisterNumber, n: QubitCount) -> Result<Answer, Refusal>
@@ -48,9 +45,7 @@ impl<'b, 'a> Engine<'b, 'a> {
         ensures loans { KeepsEngine self.old self.new }
         ensures responds { Responds self.old self.new (call.Unit d n) result }
     {
-        let before = self.diagram.state;
-        let step = self.diagram.unit(n);
-        self.settle(before, d, step)
+        self.set(d, |diagram| diagram.unit(n))
     }
 
     pub(crate) fn add(&mut self, d: RegisterNumber, a: Edge, b: Edge) -> Result<Answer, Refusal>
@@ -60,9 +55,7 @@ impl<'b, 'a> Engine<'b, 'a> {
         ensures sets { Sets self.old self.new d
             (sums (tensor self.old.diagram.now a) (tensor self.old.diagram.now b)) result }
     {
-        let before = self.diagram.state;
-        let step = self.diagram.sum(a, b);
-        self.settle(before, d, step)
+        self.set(d, |diagram| diagram.sum(a, b))
     }
 
     pub(crate) fn cont(
@@ -78,10 +71,8 @@ impl<'b, 'a> Engine<'b, 'a> {
         ensures sets { Sets self.old self.new d
             (conts (tensor self.old.diagram.now a) (tensor self.old.diagram.now b) (bits m)) result }
     {
-        let before = self.diagram.state;
         let mask = m as u64;
-        let step = self.diagram.contract(a, b, mask);
-        self.settle(before, d, step)
+        self.set(d, |diagram| diagram.contract(a, b, mask))
     }
 
     // Index k is renamed k - 1, in a tensor that does not depend on k - 1.
@@ -91,9 +82,7 @@ impl<'b, 'a> Engine<'b, 'a> {
         ensures loans { KeepsEngine self.old self.new }
         ensures sets { Sets self.old self.new d (low_of k (tensor self.old.diagram.now a)) result }
     {
-        let before = self.diagram.state;
-        let step = self.diagram.lower(a, k);
-        self.settle(before, d, step)
+        self.set(d, |diagram| diagram.lower(a, k))
     }
 
     // The same, or 7 where it depends on k - 1.
@@ -117,10 +106,8 @@ impl<'b, 'a> Engine<'b, 'a> {
         ensures loans { KeepsEngine self.old self.new }
         ensures sets { Sets self.old self.new d (lows_of (bits m) (tensor self.old.diagram.now a)) result }
     {
-        let before = self.diagram.state;
         let mask = m as u64;
-        let step = self.diagram.lows(a, mask);
-        self.settle(before, d, step)
+        self.set(d, |diagram| diagram.lows(a, mask))
     }
 
     // The same, or 7 where there is a clash.
@@ -144,8 +131,6 @@ impl<'b, 'a> Engine<'b, 'a> {
         ensures loans { KeepsEngine self.old self.new }
         ensures sets { Sets self.old self.new d (apply_step g (tensor self.old.diagram.now a)) result }
     {
-        let before = self.diagram.state;
-        let step = apply::apply(self.diagram, a, g);
-        self.settle(before, d, step)
+        self.set(d, |diagram| apply::apply(diagram, a, g))
     }
 }

@@ -11,6 +11,7 @@ use diagram::node::NodeCount;
 use diagram::registers::Registers;
 
 // "The result gives the code (0 or 9), lines answered, bytes written, the node count and the sixteen registers."
+// (The code is a number: document 01 and the C interface say 0 or 9.)
 #[derive(Clone, Copy)]
 pub struct SessionResult {
     pub code: usize,
@@ -68,7 +69,8 @@ impl<'b, 'a> Engine<'b, 'a> {
             bytes: 0,
             place: 0,
         };
-        // The place goes from line to line, past bytes that `split::end` has passed.
+        // The place goes from line to line, past bytes that `split::end` has passed. (No iterator: the run may stop in
+        // the middle, and answers the place.)
         while p.place < text.len() {
             if p.lines == limit {
                 return p;

@@ -15,6 +15,7 @@ use diagram::compare;
 use diagram::node::{Edge, Index};
 use diagram::registers::RegisterNumber;
 
+// (A function for each call, though some are much alike: what each promises names its call.)
 impl<'b, 'a> Engine<'b, 'a> {
     // The edge in a register, or 3 where that is empty.
     pub(crate) fn operand(&self, a: RegisterNumber) -> Result<Edge, Refusal>

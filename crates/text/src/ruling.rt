@@ -9,7 +9,7 @@ use crate::limits::LineNumber;
 use crate::{answer, print};
 use diagram::compare::Comparison;
 
-// "The result is code and bytes written"
+// "The result is code and bytes written" (The code is a number: document 01 and the C interface say 0 or 9.)
 #[derive(Clone, Copy)]
 pub struct VerdictResult {
     pub code: usize,

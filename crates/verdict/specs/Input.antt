@@ -44,3 +44,10 @@ pub record Reads (b : Buffer) (r : Result ⊤ ReadFailed) : Type 0 where
   pub before : Buffer
   pub more : ReadsMore before
   pub last : LastRead before b r
+
+-- used by the proofs alone
+
+-- what the buffer holds is what some bytes leave in it
+pub record Held (a : Buffer) : Type 0 where
+  pub came : Bytes
+  pub holds : BufferHolds came a

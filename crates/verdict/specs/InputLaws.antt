@@ -9,7 +9,7 @@ use Rattle.stdin.specs.Stdin.{count_of}
 use Rattle.stdin.specs.Star.{Star, none, more}
 use Rattle.stdin.specs.declared.ReadFailed.{ReadFailed}
 use Rattle.text.specs.Text.{Bytes}
-use Rattle.verdict.specs.Input.{BufferHolds, FeedEnsures, ReadEnsures, ReadStep, ReadsMore, LastRead, Reads}
+use Rattle.verdict.specs.Input.{FeedEnsures, ReadEnsures, ReadStep, ReadsMore, LastRead, Reads, Held}
 use Rattle.verdict.specs.declared.buffer.Buffer.{Buffer}
 
 -- one byte that does not fit
@@ -70,10 +70,6 @@ reads_none {a} v =
     record { before = a; more = v; last = record { part = []; possible = omega arith; feeds = feed_none } }
 
 -- what the buffer holds after any number of reads
-
-pub record Held (a : Buffer) : Type 0 where
-  pub came : Bytes
-  pub holds : BufferHolds came a
 
 held_read : {a b : Buffer} {r : Result ℕ ReadFailed} → Held a → ReadEnsures a b r → Held b
 held_read {r = r} v w =

@@ -43,6 +43,9 @@ impl Buffer {
 
     // Reads anew, to the input's end. A proved loop has to end, and nothing says that an input does: no run uses this
     // count up.
+    //
+    // The program `session` has this loop too, over lines and answers, which may fail. One for both is no plainer:
+    // `Session::receive` says why.
     pub fn receive(&mut self, stdin: Stdin) -> Result<(), ReadFailed>
         ensures { Reads self.new result }
     {

@@ -1,6 +1,5 @@
-use Rattle.diagram.specs.Fields.{put_field}
+use Rattle.diagram.specs.FieldsLaws.{put_bytes}
 use Rattle.diagram.proofs.fields.set.Goals as goal
 
 pub returns : goal.returns
-unfolding put_field
-returns c = cc
+returns c = put_bytes c.args.s.now c.args.f c.args.i c.requires.1 c.to_le_bytes.ensures

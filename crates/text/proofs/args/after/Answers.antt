@@ -1,13 +1,8 @@
 -- The fields from the left: each adds its number.
-use Rattle.std.specs.Prelude.{ℕ, List}
 use Rattle.std.proofs.Common.{rules, ◌∙◌}
 use native.Mathlib.Omega.{arith}
-use denote.Ref.{Bor}
-use Rattle.std.proofs.lemmas.Iterator.{YieldsList}
-use Rattle.std.proofs.lemmas.Iterator.Consumers.{YieldsList-turn, YieldsList-end}
 use Rattle.std.proofs.lemmas.List.{length_push}
-use Rattle.text.specs.Split.{fields_after}
-use Rattle.text.specs.SplitLaws.{fields_yielded}
+use Rattle.text.specs.SplitLaws.{field_turn, field_end}
 use Rattle.text.specs.ArgsLaws.{args_loop_next, args_loop_malformed, args_loop_fifth, args_loop_end}
 use Rattle.text.specs.ArgsLaws.{no_fields}
 use Rattle.text.proofs.args.after.Goals as goal
@@ -17,46 +12,32 @@ returns-then-e-line c = no_fields _ _ _ (omega (arith, c.if-e-line.true))
 
 pub returns-in_err-read : goal.returns-in_err-read
 returns-in_err-read c =
-    let next = λ (e : YieldsList _ (λ (x : Bor (List ℕ)). x.now) c.into_iter-field-iterator.result
-    (fields_after c.args.line.now c.args.e)).
-    YieldsList-turn e c.loop-field.yielded _ c.loop-field.yielded_by _ _ c.in-Some.field c.in-Some.is
-    c.next.ensures.steps in
-    let t = next (fields_yielded _ _ _ (omega (arith, c.requires.0, c.if-e-line.false))
+    let turn = field_turn _ _ _ (omega (arith, c.requires.0, c.if-e-line.false))
     c.into_iter-field-iterator.ensures.into_iter_gives c.split-field-items.ensures.rest
-    c.split-field-items.ensures.done c.split-field-items.ensures.closure (λ x r q h. search rules)) in
-    c.from_residual.ensures ∙ args_loop_malformed c.loop-field.invariant t c.in_err-read.ensures
+    c.split-field-items.ensures.done c.split-field-items.ensures.closure (λ x r q h. search rules)
+    c.loop-field.yielded _ c.loop-field.yielded_by _ c.in-Some.field c.in-Some.is c.next.ensures.steps in
+    c.from_residual.ensures ∙ args_loop_malformed c.loop-field.invariant turn c.in_err-read.ensures
 
 pub returns-in_err-args : goal.returns-in_err-args
 returns-in_err-args c =
-    let next = λ (e : YieldsList _ (λ (x : Bor (List ℕ)). x.now) c.into_iter-field-iterator.result
-    (fields_after c.args.line.now c.args.e)).
-    YieldsList-turn e c.loop-field.yielded _ c.loop-field.yielded_by _ _ c.in-Some.field c.in-Some.is
-    c.next.ensures.steps in
-    let t = next (fields_yielded _ _ _ (omega (arith, c.requires.0, c.if-e-line.false))
+    let turn = field_turn _ _ _ (omega (arith, c.requires.0, c.if-e-line.false))
     c.into_iter-field-iterator.ensures.into_iter_gives c.split-field-items.ensures.rest
-    c.split-field-items.ensures.done c.split-field-items.ensures.closure (λ x r q h. search rules)) in
+    c.split-field-items.ensures.done c.split-field-items.ensures.closure (λ x r q h. search rules)
+    c.loop-field.yielded _ c.loop-field.yielded_by _ c.in-Some.field c.in-Some.is c.next.ensures.steps in
     c.from_residual-in_err-args.ensures
-    ∙ args_loop_fifth c.loop-field.invariant t c.in_ok-read.ensures c.in_err-args.ensures
+    ∙ args_loop_fifth c.loop-field.invariant turn c.in_ok-read.ensures c.in_err-args.ensures
 
 pub loop-field-preserved : goal.loop-field-preserved
 loop-field-preserved c =
-    let next = λ (e : YieldsList _ (λ (x : Bor (List ℕ)). x.now) c.into_iter-field-iterator.result
-    (fields_after c.args.line.now c.args.e)).
-    YieldsList-turn e c.loop-field.yielded _ c.loop-field.yielded_by _ _ c.in-Some.field c.in-Some.is
-    c.next.ensures.steps in
-    let t = next (fields_yielded _ _ _ (omega (arith, c.requires.0, c.if-e-line.false))
+    let turn = field_turn _ _ _ (omega (arith, c.requires.0, c.if-e-line.false))
     c.into_iter-field-iterator.ensures.into_iter_gives c.split-field-items.ensures.rest
-    c.split-field-items.ensures.done c.split-field-items.ensures.closure (λ x r q h. search rules)) in
+    c.split-field-items.ensures.done c.split-field-items.ensures.closure (λ x r q h. search rules)
+    c.loop-field.yielded _ c.loop-field.yielded_by _ c.in-Some.field c.in-Some.is c.next.ensures.steps in
     rw (length_push c.loop-field.yielded c.in-Some.field)
-    (args_loop_next c.loop-field.invariant t c.in_ok-read.ensures c.in_ok-args.ensures)
+    (args_loop_next c.loop-field.invariant turn c.in_ok-read.ensures c.in_ok-args.ensures)
 
 pub returns : goal.returns
-returns c =
-    let ends = λ (e : YieldsList _ (λ (x : Bor (List ℕ)). x.now) c.into_iter-field-iterator.result
-    (fields_after c.args.line.now c.args.e)).
-    YieldsList-end e c.loop-field.yielded _ c.loop-field.yielded_by _ _ c.in-None.is
-    c.next.ensures.steps in
-    let t = ends (fields_yielded _ _ _ (omega (arith, c.requires.0, c.if-e-line.false))
+returns c = args_loop_end c.loop-field.invariant (field_end _ _ _ (omega (arith, c.requires.0, c.if-e-line.false))
     c.into_iter-field-iterator.ensures.into_iter_gives c.split-field-items.ensures.rest
-    c.split-field-items.ensures.done c.split-field-items.ensures.closure (λ x r q h. search rules)) in
-    args_loop_end c.loop-field.invariant t.1
+    c.split-field-items.ensures.done c.split-field-items.ensures.closure (λ x r q h. search rules)
+    c.loop-field.yielded _ c.loop-field.yielded_by _ c.in-None.is c.next.ensures.steps)

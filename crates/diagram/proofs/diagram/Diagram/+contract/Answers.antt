@@ -3,7 +3,7 @@ use borrow.Author.Rules.{rules}
 use native.Mathlib.Omega.{arith}
 use Rattle.diagram.specs.CacheLaws.{lookup_is}
 use Rattle.diagram.specs.OperationLaws.{cached_fits, cached_hit, cached_kept}
-use Rattle.diagram.specs.OperationHalvesLaws.{inside, fixable_left, fixable_right, part_ready, part_less}
+use Rattle.diagram.specs.OperationHalvesLaws.{inside, fixable_left, fixable_right, part}
 use Rattle.diagram.specs.ContractLaws.{contract_left, contract_right, constant_right, constant_left}
 use Rattle.diagram.specs.ContractLaws.{contract_reduced_measure, contract_reduced_ready, contract_reduced_some}
 use Rattle.diagram.specs.ContractLaws.{contract_times, contract_times_full}
@@ -89,17 +89,9 @@ contract_high-cofactor-b1-requires t c = search (rules, fixable_right)
 
 pub contract_high-contract-requires : goal.contract_high-contract-requires
 contract_high-contract-requires t c =
-    let w = c.requires.0 in (
-      omega (
-        arith,
-        part_less w.ready w.inside w.lowest c.cofactor-a1.ensures c.cofactor-b1.ensures,
-        c.decreases,
-      ),
-      (
-        part_ready w.ready w.inside w.lowest c.cofactor-a1.ensures c.cofactor-b1.ensures,
-        omega (arith, c.without-rest.ensures.most, c.requires.1),
-      ),
-    )
+    let w = c.requires.0 in
+    let p = part w.ready w.inside w.lowest c.cofactor-a1.ensures c.cofactor-b1.ensures in
+    (omega (arith, p.0, c.decreases), (p.1, omega (arith, c.without-rest.ensures.most, c.requires.1)))
 
 pub contract_high-returns-in_err-h-clause-does : goal.contract_high-returns-in_err-h-clause-does
 contract_high-returns-in_err-h-clause-does t c =
@@ -130,17 +122,9 @@ contract_split-cofactor-b0-requires t c = search (rules, fixable_right, inside)
 pub contract_split-contract-requires : goal.contract_split-contract-requires
 contract_split-contract-requires t c =
     let g = c.requires.0 in
-    let k = inside g c.requires.1.some c.lowest-k.ensures.0 in (
-      omega (
-        arith,
-        part_less g k c.lowest-k.ensures.0 c.cofactor-a0.ensures c.cofactor-b0.ensures,
-        c.decreases,
-      ),
-      (
-        part_ready g k c.lowest-k.ensures.0 c.cofactor-a0.ensures c.cofactor-b0.ensures,
-        omega (arith, c.without-rest.ensures.most, c.requires.1.mask),
-      ),
-    )
+    let k = inside g c.requires.1.some c.lowest-k.ensures.0 in
+    let p = part g k c.lowest-k.ensures.0 c.cofactor-a0.ensures c.cofactor-b0.ensures in
+    (omega (arith, p.0, c.decreases), (p.1, omega (arith, c.without-rest.ensures.most, c.requires.1.mask)))
 
 pub contract_split-returns-in_err-l-clause-does : goal.contract_split-returns-in_err-l-clause-does
 contract_split-returns-in_err-l-clause-does t c =

@@ -4,7 +4,7 @@ use borrow.Author.Rules.{rules}
 use native.Mathlib.Omega.{arith}
 use Rattle.diagram.specs.CacheLaws.{lookup_is}
 use Rattle.diagram.specs.OperationLaws.{cached_fits, cached_hit, cached_kept}
-use Rattle.diagram.specs.OperationHalvesLaws.{fixable_left, part_ready, part_less}
+use Rattle.diagram.specs.OperationHalvesLaws.{fixable_left, part}
 use Rattle.diagram.specs.LowerLaws.{lows_part, lows_none, lows_reduced_ready, lows_reduced, lows_reduced_measure}
 use Rattle.diagram.specs.LowerLaws.{lows_times, lows_times_full, lows_key_fits, lows_key_step, lows_known}
 use Rattle.diagram.specs.LowerLaws.{lows_inside, lows_lowest, lows_fixable}
@@ -59,10 +59,9 @@ lows_high-cofactor-a1-requires t c = search (rules, fixable_left)
 pub lows_high-lows-requires : goal.lows_high-lows-requires
 lows_high-lows-requires t c =
     let w = c.requires.0 in
-    let a1 = c.cofactor-a1.ensures in (
-      omega (arith, part_less w.ready w.inside w.lowest a1 a1, c.decreases),
-      (part_ready w.ready w.inside w.lowest a1 a1, lows_part c.requires.1.requires a1),
-    )
+    let a1 = c.cofactor-a1.ensures in
+    let p = part w.ready w.inside w.lowest a1 a1 in
+    (omega (arith, p.0, c.decreases), (p.1, lows_part c.requires.1.requires a1))
 
 pub lows_high-returns-in_err-h-clause-does : goal.lows_high-returns-in_err-h-clause-does
 lows_high-returns-in_err-h-clause-does t c =
@@ -87,10 +86,9 @@ lows_split-lows-requires t c =
     let g = c.requires.0 in
     let x = c.requires.1 in
     let k = c.top-k.ensures.0 in
-    let a0 = c.cofactor-a0.ensures in (
-      omega (arith, part_less g (lows_inside g x k) (lows_lowest g x k) a0 a0, c.decreases),
-      (part_ready g (lows_inside g x k) (lows_lowest g x k) a0 a0, lows_part x.requires a0),
-    )
+    let a0 = c.cofactor-a0.ensures in
+    let p = part g (lows_inside g x k) (lows_lowest g x k) a0 a0 in
+    (omega (arith, p.0, c.decreases), (p.1, lows_part x.requires a0))
 
 pub lows_split-returns-in_err-l-clause-does : goal.lows_split-returns-in_err-l-clause-does
 lows_split-returns-in_err-l-clause-does t c =

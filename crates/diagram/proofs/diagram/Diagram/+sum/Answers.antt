@@ -3,7 +3,7 @@ use borrow.Author.Rules.{rules}
 use native.Mathlib.Omega.{arith}
 use Rattle.diagram.specs.CacheLaws.{lookup_is}
 use Rattle.diagram.specs.OperationLaws.{cached_fits, cached_hit, cached_kept}
-use Rattle.diagram.specs.OperationHalvesLaws.{inside, fixable_left, fixable_right, part_ready, part_less}
+use Rattle.diagram.specs.OperationHalvesLaws.{inside, fixable_left, fixable_right, part}
 use Rattle.diagram.specs.SumLaws.{sum_left, sum_right, sum_one, sum_reduced_measure, sum_reduced_ready}
 use Rattle.diagram.specs.SumLaws.{sum_reduced, sum_times, sum_times_full}
 use Rattle.diagram.specs.SumLaws.{sum_key_fits, sum_key_step, sum_known, sum_some}
@@ -71,12 +71,9 @@ sum_high-cofactor-b1-requires t c = search (rules, fixable_right)
 
 pub sum_high-sum-requires : goal.sum_high-sum-requires
 sum_high-sum-requires t c =
-    let less = part_less c.requires.ready c.requires.inside c.requires.lowest
-    c.cofactor-a1.ensures c.cofactor-b1.ensures in (
-      omega (arith, less, c.decreases),
-      part_ready c.requires.ready c.requires.inside c.requires.lowest c.cofactor-a1.ensures
-          c.cofactor-b1.ensures,
-    )
+    let w = c.requires in
+    let p = part w.ready w.inside w.lowest c.cofactor-a1.ensures c.cofactor-b1.ensures in
+    (omega (arith, p.0, c.decreases), p.1)
 
 pub sum_high-returns-in_err-h-clause-does : goal.sum_high-returns-in_err-h-clause-does
 sum_high-returns-in_err-h-clause-does t c =
@@ -102,12 +99,8 @@ sum_split-cofactor-b0-requires t c = search (rules, fixable_right, inside, sum_s
 pub sum_split-sum-requires : goal.sum_split-sum-requires
 sum_split-sum-requires t c =
     let k = inside c.requires.0 (sum_some c.requires.0 c.requires.1) c.lowest-k.ensures.0 in
-    let less = part_less c.requires.0 k c.lowest-k.ensures.0 c.cofactor-a0.ensures
-    c.cofactor-b0.ensures in (
-      omega (arith, less, c.decreases),
-      part_ready c.requires.0 k c.lowest-k.ensures.0 c.cofactor-a0.ensures
-          c.cofactor-b0.ensures,
-    )
+    let p = part c.requires.0 k c.lowest-k.ensures.0 c.cofactor-a0.ensures c.cofactor-b0.ensures in
+    (omega (arith, p.0, c.decreases), p.1)
 
 pub sum_split-returns-in_err-l-clause-does : goal.sum_split-returns-in_err-l-clause-does
 sum_split-returns-in_err-l-clause-does t c =

@@ -1,6 +1,21 @@
 use borrow.Author.Rules.{rules}
-use Rattle.replay.specs.ReplayLaws.{settles_step}
+use Rattle.std.proofs.Common.{sym, subst}
+use Rattle.diagram.specs.Tensor.{indices}
+use Rattle.diagram.specs.Tally.{build}
+use Rattle.diagram.specs.Gate.{unit_tensor}
+use Rattle.diagram.specs.Diagram.{IsSound}
+use Rattle.replay.specs.ReplayLaws.{sets_step}
 use Rattle.replay.proofs.calls.Replay.unit.Goals as goal
 
-pub settle-requires : goal.settle-requires
-settle-requires c = (search (rules, settles_step), search rules)
+pub set-requires : goal.set-requires
+set-requires c =
+    λ κs. (
+      search rules,
+      (
+        search rules,
+        (
+          λ p e. (let sound : IsSound p.now = subst IsSound (sym e) c.requires.0.sound in search rules),
+          λ m t h. (let does = h.met in search (rules, sets_step (build (unit_tensor indices c.args.n)) m)),
+        ),
+      ),
+    )

@@ -4,7 +4,8 @@ use Rattle.session.specs.Feed.{FeedEnsures}
 use Rattle.session.proofs.answer.Session.feed.Given as goal
 
 abbrev pub invariant-loop-b : goal.invariant-loop-b
-invariant-loop-b l =
-    FeedEnsures (take l.b-index l.part) (memory_of l.initial.self) (state_of l.initial.self) (memory_of l.self)
-    (state_of l.self) (Ok tt)
+invariant-loop-b g l =
+    FeedEnsures (take l.b-index l.part) (memory_of l.initial.self)
+    (state_of l.initial.self (g.W.Output.outcomes l.initial.output)) (memory_of l.self)
+    (state_of l.self (g.W.Output.outcomes l.output)) (Ok tt)
     × KeepsSession l.initial.self l.self

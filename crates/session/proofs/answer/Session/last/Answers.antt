@@ -3,7 +3,7 @@ use Rattle.session.specs.FeedLaws.{last_line, last_none}
 use Rattle.session.proofs.answer.Session.last.Goals as goal
 
 pub returns-then-self-gt0-clause-ends : goal.returns-then-self-gt0-clause-ends
-returns-then-self-gt0-clause-ends c = search (rules, last_line)
+returns-then-self-gt0-clause-ends g c = search (rules, last_line)
 
 pub returns-clause-ends : goal.returns-clause-ends
-returns-clause-ends c = search (rules, last_none)
+returns-clause-ends g c = search (rules, last_none)

@@ -4,17 +4,17 @@ use Rattle.session.specs.InputLaws.{receive_start, receive_step, receive_end, re
 use Rattle.session.proofs.answer.Session.receive.Goals as goal
 
 pub loop-init : goal.loop-init
-loop-init c = (receive_start c.requires, search rules)
+loop-init g c = (receive_start c.requires, search rules)
 
 pub returns-in_err-read-clause-receives : goal.returns-in_err-read-clause-receives
-returns-in_err-read-clause-receives c =
+returns-in_err-read-clause-receives g c =
     let p = err_from_is_err_and c.from_residual.result c.from_residual.ensures.1 in
     rw (p.1, p.2) (receive_failed c.loop.invariant.0 _ c.in_err-read.ensures.reads)
 
 pub returns-then-branch-eq0-clause-receives : goal.returns-then-branch-eq0-clause-receives
-returns-then-branch-eq0-clause-receives c =
+returns-then-branch-eq0-clause-receives g c =
     receive_end c.loop.invariant.0 c.if-branch-eq0.true c.in_ok-read.ensures.reads
 
 pub loop-preserved : goal.loop-preserved
-loop-preserved c =
+loop-preserved g c =
     (receive_step c.loop.invariant.0 _ c.if-branch-eq0.false c.in_ok-read.ensures.reads, search rules)

@@ -4,15 +4,16 @@ use Rattle.session.specs.FeedLaws.{feeds_end, feeds_byte, feeds_lost}
 use Rattle.session.proofs.answer.Session.step.Goals as goal
 
 pub returns-in_err-answer-clause-feeds : goal.returns-in_err-answer-clause-feeds
-returns-in_err-answer-clause-feeds c =
+returns-in_err-answer-clause-feeds g c =
     let p = err_from_is_err_and c.from_residual.result c.from_residual.ensures.1 in
     let a = c.in_err-answer.ensures in
-    rw p.1 (feeds_lost _ (search rules) a.loans.engine.loans.long a.answers)
+    rw p.1 (feeds_lost _ (search rules) a.loans.engine.loans.long a.answers (search rules))
 
 pub returns-then-b-eq10-clause-feeds : goal.returns-then-b-eq10-clause-feeds
-returns-then-b-eq10-clause-feeds c =
+returns-then-b-eq10-clause-feeds g c =
     let a = c.in_ok-answer.ensures in
-    feeds_end (search rules) a.loans.room a.loans.engine.loans.long c.requires a.answers c.none-self.ensures
+    feeds_end (search rules) a.loans.room a.loans.engine.loans.long c.requires a.answers (search rules)
+    c.none-self.ensures
 
 pub returns-clause-feeds : goal.returns-clause-feeds
-returns-clause-feeds c = search (rules, feeds_byte)
+returns-clause-feeds g c = search (rules, feeds_byte)

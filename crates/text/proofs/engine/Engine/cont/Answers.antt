@@ -1,6 +1,7 @@
 use borrow.Author.Rules.{rules}
-use Rattle.text.specs.EngineLaws.{sets_register_cached}
+use Rattle.text.specs.EngineLaws.{sets_by_cached}
 use Rattle.text.proofs.engine.Engine.cont.Goals as goal
 
 pub returns-clause-sets : goal.returns-clause-sets
-returns-clause-sets c = search (rules, sets_register_cached)
+returns-clause-sets c =
+    let met = c.set.ensures.sets.met.met in sets_by_cached c.requires.0 c.set.ensures.sets (search (rules, met))

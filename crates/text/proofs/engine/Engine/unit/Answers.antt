@@ -1,6 +1,10 @@
 use borrow.Author.Rules.{rules}
+use Rattle.text.specs.EngineLaws.{sets_by_step}
 use Rattle.text.specs.RespondLaws.{responds_unit}
 use Rattle.text.proofs.engine.Engine.unit.Goals as goal
 
 pub returns-clause-responds : goal.returns-clause-responds
-returns-clause-responds c = search (rules, responds_unit)
+returns-clause-responds c =
+    let k = c.set.ensures.sets in
+    let met = k.met.met in
+    responds_unit (sets_by_step c.requires.0 k (search (rules, met)) (search (rules, met)))
