@@ -18,8 +18,9 @@ pub record FieldWithin (s : List ℕ) (f i : ℕ) : Type 0 where
   pub column : f < 8
   pub row : 16 * i + 16 ≤ length s
 
--- s' is s with field f of the first n records 0
+-- s' is s with field f of the first n records 0, and nothing else changed in it
 pub record Cleared (s s' : List ℕ) (f n : ℕ) : Type 0 where
   pub long : length s' ≡ length s
   pub others : (g : ℕ) → g < 8 → g ≢ f → field s' g ≡ field s g
   pub none : (i : ℕ) → i < n → field s' f i ≡ 0
+  pub after : (i : ℕ) → n ≤ i → field s' f i ≡ field s f i

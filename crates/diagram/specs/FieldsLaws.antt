@@ -54,7 +54,8 @@ put_field_beside s f i v g hf hg ne =
 -- a field of records set to 0, one after the other
 
 pub cleared_none : (s : List ℕ) (f : ℕ) → Cleared s s f 0
-cleared_none s f = record { long = refl; others = λ g p d. refl; none = λ i h. absurd (omega arith) }
+cleared_none s f =
+    record { long = refl; others = λ g p d. refl; none = λ i h. absurd (omega arith); after = λ i h. refl }
 
 pub cleared_more : {s s' s₁ : List ℕ} {f i n : ℕ} → f < 8 → i < n → 16 * n ≤ length s → Cleared s s' f i
     → s₁ ≡ put_field s' f i 0 → Cleared s s₁ f (i + 1)
@@ -66,4 +67,5 @@ cleared_more {s' = s'} {f = f} {i = i} p l h c q = rw q
         | yes e ↦ ap (field _ f) e ∙ put_field_same s' f i 0 (omega (arith, c.long))
         | no d ↦ put_field_other s' f i 0 f j p p d ∙ c.none j (omega arith)
       ];
+      after = λ j b. put_field_other s' f i 0 f j p p (λ e. absurd (omega (arith, e))) ∙ c.after j (omega arith);
     }

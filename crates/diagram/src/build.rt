@@ -47,8 +47,7 @@ fn next_used(g: Gate, k: Index) -> Index
     requires { QubitsInRange g × (k ≤ index_count) }
     ensures { NoneUsed g k result }
 {
-    let a = g.first_qubit();
-    let b = g.second_qubit();
+    let (a, b) = g.qubits();
     if a < b {
         owned(a, b, k)
     } else {

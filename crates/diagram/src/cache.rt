@@ -26,6 +26,8 @@ impl Op {
     }
 }
 
+// (`KeyFits` stands in five clauses, and in no ghost field: it would be proved where a key is made, as it is now.)
+//
 // Everything that a result depends on: the operation, its two nodes (lowering has one, twice), and for sum the ratio of
 // the weights, for contraction the set S, for lowering the set that goes down.
 #[derive(Clone, Copy)]

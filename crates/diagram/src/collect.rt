@@ -19,7 +19,8 @@ struct SweepResult {
     registers: Registers,
 }
 
-// Moves the reached nodes down; the answer is how many they are, and the registers with their nodes' new numbers.
+// Moves the reached nodes down; the answer is how many they are, and the registers with their nodes' new numbers. (What
+// works on a store alone here, in `mark`, in `compact` and in `insert`: no state is true of it meanwhile.)
 fn sweep(store: &mut [u8], count: NodeCount, registers: Registers) -> SweepResult
     requires { HoldsNodes store.old count × ((count < 65536) ×
         (ChildrenBefore (node_at store.old) count × RegistersValid count registers.all)) }

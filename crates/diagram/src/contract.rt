@@ -60,6 +60,7 @@ impl<'a> Diagram<'a> {
     }
 
     // The contraction of edges of weight 1, not both constant: remembered, or worked out and remembered.
+    // (Each operation for itself: operation.rt.)
     #[cycle(contract)]
     fn contract_cached(&mut self, a: Edge, b: Edge, m: Mask) -> Result<Edge, Full>
         requires { Ready self.old a b × ContractReduced a b m }

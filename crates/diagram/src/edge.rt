@@ -67,7 +67,7 @@ pub(crate) fn cofactor(store: &[u8], s: State, a: Edge, k: Index, high: bool) ->
     times(a.weight, x.low)
 }
 
-// The same for an edge of this diagram.
+// The same for an edge of this diagram. (A store that is shared can be in no diagram: hence both.)
 impl<'a> Diagram<'a> {
     pub(crate) fn top(&self, a: Edge) -> Index
         requires { IsSound self.now × IsEdge self.now a }

@@ -46,8 +46,7 @@ pub(crate) fn entry(g: Gate, v: Assignment) -> Weight
     requires { QubitsInRange g }
     ensures { Represents result (entry_of g (bits v)) }
 {
-    let a = g.first_qubit();
-    let b = g.second_qubit();
+    let (a, b) = g.qubits();
     match g {
         Gate::Cx(_, _) => pair(
             [[1, 0, 0, 0], [0, 1, 0, 0], [0, 0, 0, 1], [0, 0, 1, 0]],

@@ -9,7 +9,7 @@ use crate::matrices::GateNumber;
 use crate::node::{Mask, Weight};
 use std::fmt;
 
-// One of the qubits 0 to 7.
+// One of the qubits 0 to 7. (A plain number, as an index is: node.rt.)
 pub type Qubit = usize;
 
 pub type QubitCount = usize;
@@ -92,23 +92,14 @@ impl Gate {
         }
     }
 
-    // The gate's qubit, or its first.
-    pub(crate) fn first_qubit(self) -> Qubit
-        ensures { result ≡ first_qubit self }
+    // The gate's qubit twice, or its two.
+    pub(crate) fn qubits(self) -> (Qubit, Qubit)
+        ensures first { result.0 ≡ first_qubit self }
+        ensures second { result.1 ≡ second_qubit self }
     {
         match self.shape() {
-            Shape::One(q) => q,
-            Shape::Two(a, _) => a,
-        }
-    }
-
-    // The gate's qubit again, or its second.
-    pub(crate) fn second_qubit(self) -> Qubit
-        ensures { result ≡ second_qubit self }
-    {
-        match self.shape() {
-            Shape::One(q) => q,
-            Shape::Two(_, b) => b,
+            Shape::One(q) => (q, q),
+            Shape::Two(a, b) => (a, b),
         }
     }
 }

@@ -37,7 +37,7 @@ impl<'a> Diagram<'a> {
         self.lows(a, mask::power(k))
     }
 
-    // Does an index of m clash, for an edge of this diagram?
+    // Does an index of m clash, for an edge of this diagram? (A store that is shared can be in no diagram: hence both.)
     pub fn clash(&self, a: Edge, m: Mask) -> bool
         requires { IsSound self.now × (IsEdge self.now a × (m < masks)) }
         ensures { result ≡ clashes (bits m) (tensor self.now a) }
@@ -65,6 +65,7 @@ impl<'a> Diagram<'a> {
     }
 
     // The same for an edge of weight 1 to a node: remembered, or worked out and remembered.
+    // (Each operation for itself: operation.rt.)
     #[cycle(lows)]
     fn lows_cached(&mut self, a: Edge, m: Mask) -> Result<Edge, Full>
         requires { Ready self.old a a × Lowers self.old a m }

@@ -1,5 +1,5 @@
 // The gates' matrices, a case for each gate and entry (document 02, "Three"); docs/GATES.md has them as they are
-// published.
+// published. (`Gate::matrix` and `entry` have them as arrays, which is document 01's form.)
 ghost use Rattle.std.specs.Prelude.{◌≡◌};
 ghost use Rattle.diagram.specs.Matrices.{weight as weight_of};
 

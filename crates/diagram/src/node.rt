@@ -16,13 +16,14 @@ pub type NodeCount = usize;
 // below 24 would be opened and made anew each time.)
 pub type Index = usize;
 
-// A set of indices: its bits are the members.
+// A set of indices: its bits are the members. (A plain number, as an index is.)
 pub type Mask = u64;
 
 // A value for each index: bit k is the value of index k.
 pub type Assignment = u64;
 
-// How many indices there are; in the place of an index it says that there is none.
+// How many indices there are; in the place of an index it says that there is none. (No Option: it is compared with
+// indices, by `<` and `min`, and is above each.)
 pub(crate) const INDICES: Index = 24;
 
 // A weight times a node's tensor.
@@ -37,6 +38,7 @@ impl Edge {
     pub const ZERO: Edge = Edge { weight: 0, node: 0 };
 }
 
+// (`NodeFits` stands in clauses, and in no ghost field: a node made of another by `..x` would have to prove it anew.)
 #[derive(Clone, Copy, PartialEq, Eq)]
 pub struct Node {
     pub index: Index,
@@ -53,7 +55,7 @@ pub(crate) fn capacity(s: &[u8]) -> NodeCount
     (s.len() / 16).min(65535)
 }
 
-// Node n.
+// Node n. (`as` between `usize` and `u64`, which have no From, here and in the other modules.)
 pub(crate) fn read(s: &[u8], n: NodeNumber) -> Node
     requires { RecordWithin s.now n }
     ensures { (result ≡ node_at s.now n) × NodeFits result }

@@ -18,8 +18,9 @@ impl<'a> Diagram<'a> {
         self.top(a).min(self.top(b))
     }
 
-    // The result that is remembered for a key, if one is. (Each operation looks up and remembers for itself: one
-    // function for all would take the step as a closure, at which each would write out its clauses all the same.)
+    // The result that is remembered for a key, if one is. (Each operation looks up, splits and remembers for
+    // itself, in `_cached`, `_split` and `_high`: one for all would take the step as a closure, at which each would
+    // write out its clauses all the same.)
     pub(crate) fn recall(&self, key: Key) -> Option<Edge>
         requires { KeyFits key }
         ensures { LookupEnsures self.now.cache.now self.now.state.epoch key result }

@@ -4,7 +4,8 @@ ghost use Rattle.diagram.specs.Registers.{empty_register, empty_registers, GetEn
 
 use crate::node::Edge;
 
-// One of the registers 0 to 15. (A plain number: a line's numbers are checked only after they are read.)
+// One of the registers 0 to 15. (A plain number: a line's are checked only after all are read, and one that is checked
+// would be opened again where the array is read. What a register holds has a node's number: document 01 numbers nodes.)
 pub type RegisterNumber = usize;
 
 pub type Register = Option<Edge>;

@@ -10,7 +10,7 @@ use crate::make::{BucketCount, State};
 use crate::node::NodeCount;
 use crate::{cache, insert};
 
-// The unique table made anew, where the store has room for one.
+// The unique table made anew, where the store has room for one. (A store alone: no state is true of it meanwhile.)
 fn remake(store: &mut [u8], count: NodeCount, buckets: BucketCount)
     requires { HoldsNodes store.old count × (16 ≤ length store.old → TableFits store.old count buckets) }
     ensures { RebuiltOrNoRoom store.old store.new count buckets }

@@ -39,6 +39,7 @@ impl<'a> Diagram<'a> {
     }
 
     // The sum of edges to different nodes, the first of weight 1: remembered, or worked out and remembered.
+    // (Each operation for itself: operation.rt.)
     #[cycle(sum)]
     fn sum_cached(&mut self, a: Edge, b: Edge) -> Result<Edge, Full>
         requires { Ready self.old a b × SumReduced a b }

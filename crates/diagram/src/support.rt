@@ -31,7 +31,7 @@ pub fn depends(store: &[u8], s: State, a: Edge, k: Index) -> bool
     mask::has(support(store, s, a), k)
 }
 
-// The same for an edge of this diagram.
+// The same for an edge of this diagram. (A store that is shared can be in no diagram: hence both.)
 impl<'a> Diagram<'a> {
     pub fn support(&self, a: Edge) -> Mask
         requires { IsSound self.now × IsEdge self.now a }

@@ -7,6 +7,8 @@ use crate::make::BucketCount;
 use crate::node::{Node, NodeCount, NodeNumber};
 use crate::{fields, node};
 
+// (A store and two numbers, and no diagram: the cache has no part here, and `insert` works while no state is true.)
+
 // The bucket of a node. Nodes that are made one after the other lead to nodes with close numbers: small factors of
 // these keep their buckets close in the store. The buckets are a power of 2, so that every one is reached.
 pub(crate) fn hash(buckets: BucketCount, x: Node) -> usize
@@ -27,7 +29,8 @@ pub(crate) fn find(s: &[u8], count: NodeCount, buckets: BucketCount, x: Node) ->
     ensures { FindEnsures (node_at s.now) count x result }
 {
     let mut n = fields::get(s, 4, hash(buckets, x));
-    // A chain of node numbers ends at 0, and no range or slice has them.
+    // A chain of node numbers ends at 0, and no range or slice has them. (An iterator over it would have to read the
+    // store at each step, and say itself why it ends.)
     while n != 0 {
         if node::read(s, n) == x {
             return Some(n);

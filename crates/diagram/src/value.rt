@@ -26,7 +26,7 @@ pub fn value(store: &[u8], s: State, a: Edge, v: Assignment) -> Weight
 }
 
 impl<'a> Diagram<'a> {
-    // The same for an edge of this diagram.
+    // The same for an edge of this diagram. (A store that is shared can be in no diagram: hence both.)
     pub fn value(&self, a: Edge, v: Assignment) -> Weight
         requires { IsSound self.now × IsEdge self.now a }
         ensures { Represents result (valued (tensor self.now a) v) }

@@ -25,6 +25,7 @@ fn put_word(out: &mut [u64], at: usize, v: u64) -> usize
     at + 1
 }
 
+// The same for a count or a place. (`usize` has no From to `u64`.)
 fn put_number(out: &mut [u64], at: usize, n: usize) -> usize
     requires { at + 1 ≤ length out.old }
     ensures { WriteEnsures out.old at (n ∷ []) out.new result }

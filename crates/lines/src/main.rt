@@ -12,13 +12,13 @@ use std::io::{BufReader, Read, Stdout};
 use text::limits::LINE_ROOM;
 use text::squeeze::Squeeze;
 
-// One byte more of the input: a line is shown where it ends. What cannot be written is left out, here and below.
+// One byte more of the input: a line is shown where it ends.
 fn step(stdout: Stdout, line: &mut [u8], squeeze: Squeeze, b: u8) -> Squeeze
     requires { (line_room ≤ length line.old) × SqueezeFits squeeze }
     ensures { SqueezeFits result }
 {
     if b == b'\n' {
-        show::show(stdout, &line[..squeeze.length]).unwrap_or(());
+        show::line(stdout, &line[..squeeze.length]);
         return Squeeze::none();
     }
     squeeze.push(line, b)
@@ -38,7 +38,7 @@ fn main(rt: HostRuntime) -> io::Result<()> {
     }
     // "a last part without LF counts unless empty"; of a line that has a byte, one is kept.
     if 0 < squeeze.length {
-        show::show(stdout, &line[..squeeze.length]).unwrap_or(());
+        show::line(stdout, &line[..squeeze.length]);
     }
     Ok(())
 }

@@ -15,7 +15,8 @@ use diagram::node::{Edge, Index, Mask};
 use diagram::registers::{RegisterNumber, Registers};
 use std::io::Stdout;
 
-// A diagram, the registers that hold edges of it, and where their contents are printed.
+// A diagram, the registers that hold edges of it, and where their contents are printed. (`IsReplay` stands at each
+// method, and in no invariant of the type: within `set` it is not true.)
 #[derive(Drop)]
 pub struct Replay<'a> {
     pub stdout: Stdout,

@@ -22,7 +22,7 @@ impl<'a> Replay<'a> {
         self.registers.clear(1);
     }
 
-    // The fresh index of q becomes its middle.
+    // The fresh index of q becomes its middle. (text has this too, over edges; replay stands on diagram alone.)
     fn rename(&mut self, q: Qubit)
         requires { IsReplay self.old × (q < 8) }
         ensures { IsReplay self.new }

@@ -13,7 +13,7 @@ mod run;
 use std::io;
 use std::io::{BufReader, ErrorKind};
 
-// 2048 nodes of 16 bytes.
+// 2048 nodes of 16 bytes. (Each program says for itself what memory it has.)
 const STORE: usize = 32768;
 
 // 1024 remembered results of four words.
@@ -26,7 +26,9 @@ fn main(rt: HostRuntime) -> io::Result<()> {
     let mut store = [0u8; STORE];
     let mut cache = [0u64; CACHE];
     let mut cached = true;
-    // A proved loop has to end, and nothing says that an input does: no run uses this count up.
+    // A proved loop has to end, and nothing says that an input does: no run uses this count up. (`texts`, `script` and
+    // `cases` have this loop each: one for the three would take a closure that borrows what each works with, and be no
+    // plainer.)
     for _ in 0..u64::MAX {
         // The store and the cache go on from session to session as they are left. Every other session is lent a cache
         // of no words.

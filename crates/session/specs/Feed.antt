@@ -1,14 +1,14 @@
 -- What taking in bytes promises: the input's lines are run, but for the bytes after its last LF; after the first answer
 -- that could not be written none is.
-use Rattle.std.specs.Prelude.{◌≡◌, Bool, List, ◌++◌, ℕ, ◌+◌, ◌≤◌, ◌<◌, length, ⊤, Result, Ok, Err}
+use Rattle.std.specs.Prelude.{◌≡◌, Bool, true, List, ◌++◌, ℕ, ◌+◌, ◌≤◌, ◌<◌, length, ⊤, Result, Ok, Err}
 use Rattle.diagram.specs.Node.{capacity}
 use Rattle.text.specs.Text.{Bytes, lines}
 use Rattle.text.specs.Session.{at_most, empty_run, run}
 use Rattle.text.specs.Squeeze.{SqueezeInvariant}
-use Rattle.text.specs.Engine.{Contents, tally_of, EngineInvariant}
+use Rattle.text.specs.Engine.{Contents, tally_of}
 use Rattle.text.specs.declared.squeeze.Squeeze.{Squeeze}
 use Rattle.session.specs.Answer.{Memory, SessionState, AnswerRequires, NoLf}
-use Rattle.session.specs.Output.{all_written, NoneLost, LastLost, OneWriteEach}
+use Rattle.session.specs.Output.{all_written, any_lost, LastLost, OneWriteEach}
 use Rattle.session.specs.declared.output.WriteFailed.{WriteFailed}
 use Rattle.text.specs.Limits.{answer_room}
 
@@ -44,10 +44,8 @@ pub record PartialLine (seen line : Bytes) (q : Squeeze) : Type 0 where
   pub unbroken : NoLf seen
   pub squeezing : SqueezeInvariant seen line q
 
--- a session that goes on: no write has failed
-pub record FeedRequires (m : Memory) (h : SessionState) : Type 0 where
-  pub line : AnswerRequires m h.squeeze h.engine
-  pub none_lost : NoneLost h.outcomes
+abbrev pub FeedRequires : Memory → SessionState → Type 0
+FeedRequires m h = AnswerRequires m h.squeeze h.engine
 
 -- What holds between two bytes: a text was taken in, and n of its lines were run, each with one write, which succeeded.
 -- What is behind them is the line that has not ended.
@@ -67,7 +65,6 @@ pub record FeedProgress (text : Bytes) (n : ℕ) (m' : Memory) (h' : SessionStat
 -- The line whose answer could not be written was run, and none after it: each line that was run has had one write, and
 -- the last one's alone failed.
 pub record FeedLost (text : Bytes) (n : ℕ) (m' : Memory) (h' : SessionState) : Type 0 where
-  pub invariant : EngineInvariant m'.cache m'.store h'.engine
   pub to : AfterLinesBefore text m'.store h'.engine
   pub lost : n < length to.done
   pub written : LastLost (length to.done) h'.outcomes
@@ -76,18 +73,37 @@ abbrev pub FeedOutcome : Bytes → ℕ → Memory → SessionState → Result �
 FeedOutcome text n m' h' (Ok _) = FeedProgress text n m' h'
 FeedOutcome text n m' h' (Err _) = FeedLost text n m' h'
 
-abbrev pub FeedFits : Memory → SessionState → Result ⊤ WriteFailed → Type 0
-FeedFits m' h' (Ok _) = FeedRequires m' h'
-FeedFits m' h' (Err _) = EngineInvariant m'.cache m'.store h'.engine
-
--- The bytes that come next are taken in; after a failed write nothing is run any more.
-pub record FeedEnsures (part : Bytes) (m : Memory) (h : SessionState) (m' : Memory) (h' : SessionState)
+-- Bytes are taken in; after a line whose answer could not be written nothing is run any more.
+pub record TakesIn (part : Bytes) (m : Memory) (h : SessionState) (m' : Memory) (h' : SessionState)
     (r : Result ⊤ WriteFailed) : Type 0 where
-  pub fits : FeedFits m' h' r
+  pub requires : FeedRequires m' h'
   pub on : (text : Bytes) (n : ℕ) → FeedInvariant text n m h → FeedOutcome (text ++ part) n m' h' r
 
+-- nothing changes, and the answer says that a write has failed
+pub record NothingFed (m : Memory) (h : SessionState) (m' : Memory) (h' : SessionState)
+    (r : Result ⊤ WriteFailed) : Type 0 where
+  pub memory : m' ≡ m
+  pub state : h' ≡ h
+  pub result : r ≡ Err (record {})
+
+-- The bytes that come next are taken in; where a write has failed before, nothing changes.
+pub record FeedEnsures (part : Bytes) (m : Memory) (h : SessionState) (m' : Memory) (h' : SessionState)
+    (r : Result ⊤ WriteFailed) : Type 0 where
+  pub takes : TakesIn part m h m' h' r
+  pub stays : any_lost h.outcomes ≡ true → NothingFed m h m' h' r
+
+-- nothing is run or written, and the answer says that a write has failed
+pub record NothingLast (m : Memory) (h : SessionState) (s' : List ℕ) (e' : Contents) (o' : List Bool)
+    (r : Result ⊤ WriteFailed) : Type 0 where
+  pub store : s' ≡ m.store
+  pub engine : e' ≡ h.engine
+  pub outcomes : o' ≡ h.outcomes
+  pub result : r ≡ Err (record {})
+
 -- The input has ended, and all its lines are run: "A text is split at LF; a last part without LF counts unless empty".
+-- Where a write has failed before, none is.
 pub record LastEnsures (m : Memory) (h : SessionState) (s' : List ℕ) (e' : Contents) (o' : List Bool)
     (r : Result ⊤ WriteFailed) : Type 0 where
   pub all : (text : Bytes) (n : ℕ) → FeedInvariant text n m h → AfterLines (lines text) s' e'
   pub written : (text : Bytes) (n : ℕ) → FeedInvariant text n m h → OneWriteEach r (length (lines text)) o'
+  pub stays : any_lost h.outcomes ≡ true → NothingLast m h s' e' o' r

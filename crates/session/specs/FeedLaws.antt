@@ -14,9 +14,9 @@ use Rattle.text.specs.declared.squeeze.Squeeze.{Squeeze}
 use Rattle.session.specs.Answer.{Memory, memory, SessionState, NoLf, none, byte, reply_to, AnswerEnsures}
 use Rattle.session.specs.AnswerLaws.{line_first}
 use Rattle.session.specs.Feed.{AfterLines, AfterLinesBefore, FeedRequires, FeedInvariant}
-use Rattle.session.specs.Feed.{FeedEnsures, LastEnsures}
-use Rattle.session.specs.Output.{PutEnsures}
-use Rattle.session.specs.OutputLaws.{put_written, none_lost_more, put_lost, put_each}
+use Rattle.session.specs.Feed.{TakesIn, NothingFed, FeedEnsures, LastEnsures}
+use Rattle.session.specs.Output.{all_written, any_lost, PutEnsures}
+use Rattle.session.specs.OutputLaws.{written_open, put_written, put_lost, put_each}
 use Rattle.session.specs.declared.output.WriteFailed.{WriteFailed}
 use Rattle.text.specs.Limits.{answer_room}
 
@@ -115,10 +115,10 @@ module _ {line c s : List ℕ} {h : SessionState} where
       → length line' ≡ length line → length s' ≡ length s → FeedRequires (memory line c s) h
       → AnswerEnsures (memory line c s) h.squeeze h.engine (memory line' c' s') e → PutEnsures h.outcomes o (Ok tt)
       → NoneEnsures q
-      → FeedEnsures (b ∷ []) (memory line c s) h (memory line' c' s')
+      → TakesIn (b ∷ []) (memory line c s) h (memory line' c' s')
       (record { squeeze = q; engine = e; outcomes = o }) (Ok tt)
   feeds_end {line'} {c'} {s'} {b} {q} {e} {o} z m k r a w g = rw z (record {
-    fits = after;
+    requires = after;
     on = λ text n f. record {
       lines = n + 1;
       invariant = record {
@@ -133,22 +133,19 @@ module _ {line c s : List ℕ} {h : SessionState} where
   })
     where
       after : FeedRequires (memory line' c' s') (record { squeeze = q; engine = e; outcomes = o })
-      after = record {
-        line = record { room = omega (arith, r.line.room, m); fits = g.fits; invariant = a.invariant };
-        none_lost = none_lost_more r.none_lost w;
-      }
+      after = record { room = omega (arith, r.room, m); fits = g.fits; invariant = a.invariant }
 
-  pub feeds_lost : {line' c' s' : List ℕ} {b : ℕ} {h' : SessionState} (x : WriteFailed) → b ≡ LF → length s' ≡ length s
+  pub feeds_lost : {line' c' s' : List ℕ} {b : ℕ} {h' : SessionState} (x : WriteFailed) → b ≡ LF
+      → length line' ≡ length line → length s' ≡ length s → h'.squeeze ≡ h.squeeze → FeedRequires (memory line c s) h
       → AnswerEnsures (memory line c s) h.squeeze h.engine (memory line' c' s') h'.engine
       → PutEnsures h.outcomes h'.outcomes (Err x)
-      → FeedEnsures (b ∷ []) (memory line c s) h (memory line' c' s') h' (Err x)
-  feeds_lost x z k a w = rw z (record {
-    fits = a.invariant;
+      → TakesIn (b ∷ []) (memory line c s) h (memory line' c' s') h' (Err x)
+  feeds_lost x z m k q u a w = rw z (record {
+    requires = record { room = omega (arith, u.room, m); fits = rw q u.fits; invariant = a.invariant };
     on = λ text n f.
         let l : length (f.to.done ++ (f.to.behind ∷ [])) ≡ n + 1 =
         length-append f.to.done (f.to.behind ∷ []) ∙ (rw f.count) in
         record {
-          invariant = a.invariant;
           to = line_ends f k a;
           lost = omega (arith, l);
           written = rw l (put_lost n f.written w);
@@ -157,10 +154,10 @@ module _ {line c s : List ℕ} {h : SessionState} where
 
   pub feeds_byte : {line' : List ℕ} {b : ℕ} {q : Squeeze} → b ≢ LF
       → FeedRequires (memory line c s) h → PushEnsures line h.squeeze b line' q
-      → FeedEnsures (b ∷ []) (memory line c s) h (memory line' c s)
+      → TakesIn (b ∷ []) (memory line c s) h (memory line' c s)
       (record { squeeze = q; engine = h.engine; outcomes = h.outcomes }) (Ok tt)
   feeds_byte {line'} {b} {q} z k p = record {
-    fits = after;
+    requires = after;
     on = λ text n f. record {
       lines = n;
       invariant = record {
@@ -175,24 +172,38 @@ module _ {line c s : List ℕ} {h : SessionState} where
   }
     where
       after : FeedRequires (memory line' c s) (record { squeeze = q; engine = h.engine; outcomes = h.outcomes })
-      after = record {
-        line = record { room = omega (arith, k.line.room, p.room); fits = p.fits; invariant = k.line.invariant };
-        none_lost = k.none_lost;
-      }
+      after = record { room = omega (arith, k.room, p.room); fits = p.fits; invariant = k.invariant }
 
 -- the loop over a part
 
-pub feed_start : {m : Memory} {h : SessionState} → FeedRequires m h → FeedEnsures [] m h m h (Ok tt)
-feed_start k = record {
-  fits = k;
-  on = λ text n f. record { lines = n; invariant = rw (append-nil text) f; more = omega arith };
+-- a write has failed
+pub feed_stays : {part : Bytes} {m : Memory} {h : SessionState} {b : Bool} → b ≡ any_lost h.outcomes → b ≡ true
+    → FeedRequires m h → FeedEnsures part m h m h (Err (record {}))
+feed_stays p q k = record {
+  takes = record {
+    requires = k;
+    on = λ text n f.
+        let e = written_open n f.written in
+        absurd (let i : ◌≡◌ {A = ℕ} 0 1 = cc in omega arith);
+  };
+  stays = λ o. record { memory = refl; state = refl; result = refl };
+}
+
+pub feed_start : {m : Memory} {h : SessionState} {b : Bool} → b ≡ any_lost h.outcomes → b ≡ false
+    → FeedRequires m h → FeedEnsures [] m h m h (Ok tt)
+feed_start p q k = record {
+  takes = record {
+    requires = k;
+    on = λ text n f. record { lines = n; invariant = rw (append-nil text) f; more = omega arith };
+  };
+  stays = λ o. absurd (let i : ◌≡◌ {A = ℕ} 0 1 = cc in omega arith);
 }
 
 -- bytes after bytes
-feeds_then : {p q : Bytes} {m m' m'' : Memory} {h h' h'' : SessionState} (r : Result ⊤ WriteFailed)
-    → FeedEnsures p m h m' h' (Ok tt) → FeedEnsures q m' h' m'' h'' r → FeedEnsures (p ++ q) m h m'' h'' r
-feeds_then {p} {q} (Ok _) f g = record {
-  fits = g.fits;
+takes_then : {p q : Bytes} {m m' m'' : Memory} {h h' h'' : SessionState} (r : Result ⊤ WriteFailed)
+    → TakesIn p m h m' h' (Ok tt) → TakesIn q m' h' m'' h'' r → TakesIn (p ++ q) m h m'' h'' r
+takes_then {p} {q} (Ok _) f g = record {
+  requires = g.requires;
   on = λ text n v.
       let x = f.on text n v in
       let y = g.on (text ++ p) x.lines x.invariant in
@@ -202,48 +213,69 @@ feeds_then {p} {q} (Ok _) f g = record {
         more = omega (arith, x.more, y.more);
       };
 }
-feeds_then {p} {q} (Err _) f g = record {
-  fits = g.fits;
+takes_then {p} {q} (Err _) f g = record {
+  requires = g.requires;
   on = λ text n v.
       let x = f.on text n v in
       let y = g.on (text ++ p) x.lines x.invariant in
       rw (← append_assoc text p q)
-      (record { invariant = y.invariant; to = y.to; lost = omega (arith, x.more, y.lost); written = y.written });
+      (record { to = y.to; lost = omega (arith, x.more, y.lost); written = y.written });
 }
 
 -- bytes after an answer that could not be written
-feeds_no_more : {p : Bytes} {m m' : Memory} {h h' : SessionState} {w : WriteFailed} (q : Bytes)
-    → FeedEnsures p m h m' h' (Err w) → FeedEnsures (p ++ q) m h m' h' (Err w)
-feeds_no_more {p} q f = record {
-  fits = f.fits;
+takes_no_more : {p : Bytes} {m m' : Memory} {h h' : SessionState} {w : WriteFailed} (q : Bytes)
+    → TakesIn p m h m' h' (Err w) → TakesIn (p ++ q) m h m' h' (Err w)
+takes_no_more {p} q f = record {
+  requires = f.requires;
   on = λ text n v.
       let x = f.on text n v in
       rw (← append_assoc text p q)
-      (record { invariant = x.invariant; to = before_more q x.to; lost = x.lost; written = x.written });
+      (record { to = before_more q x.to; lost = x.lost; written = x.written });
 }
+
+-- bytes were taken in, so no write had failed before
+fed_open : {p : Bytes} {m m' m'' : Memory} {h h' h'' : SessionState} {r : Result ⊤ WriteFailed}
+    → FeedEnsures p m h m' h' (Ok tt) → any_lost h.outcomes ≡ true → NothingFed m h m'' h'' r
+fed_open f o = absurd (let e = (f.stays o).result in let i : ◌≡◌ {A = ℕ} 0 1 = cc in omega arith)
 
 module _ (part : Bytes) {m m' m'' : Memory} {h h' h'' : SessionState} {i : ℕ} (l : i < length part)
     (f : FeedEnsures (take i part) m h m' h' (Ok tt)) where
-  feeds_next : (r : Result ⊤ WriteFailed) → FeedEnsures (get_or part i 0 ∷ []) m' h' m'' h'' r
-      → FeedEnsures (take (i + 1) part) m h m'' h'' r
-  feeds_next r g = rw (add-one i, take-suc part i 0 l) (feeds_then r f g)
+  takes_next : (r : Result ⊤ WriteFailed) → TakesIn (get_or part i 0 ∷ []) m' h' m'' h'' r
+      → TakesIn (take (i + 1) part) m h m'' h'' r
+  takes_next r g = rw (add-one i, take-suc part i 0 l) (takes_then r f.takes g)
 
-  pub feed_step : {r : Result ⊤ WriteFailed} → r ≡ Ok tt → FeedEnsures (get_or part i 0 ∷ []) m' h' m'' h'' r
+  pub feed_step : {r : Result ⊤ WriteFailed} → r ≡ Ok tt → TakesIn (get_or part i 0 ∷ []) m' h' m'' h'' r
       → FeedEnsures (take (i + 1) part) m h m'' h'' (Ok tt)
-  feed_step {r} p g = rw p at (feeds_next r g)
+  feed_step {r} p g = record { takes = rw p at (takes_next r g); stays = λ o. fed_open f o }
 
   pub feed_lost : {r : Result ⊤ WriteFailed} {w : WriteFailed} → r ≡ Err w
-      → FeedEnsures (get_or part i 0 ∷ []) m' h' m'' h'' r
+      → TakesIn (get_or part i 0 ∷ []) m' h' m'' h'' r
       → FeedEnsures part m h m'' h'' (Err w)
-  feed_lost {r} p g =
-      rw (take-append-drop (i + 1) part) at (feeds_no_more (drop (i + 1) part) (rw p at (feeds_next r g)))
+  feed_lost {r} {w} p g =
+      let t = takes_no_more (drop (i + 1) part) (rw p at (takes_next r g)) in
+      record { takes = rw (take-append-drop (i + 1) part) at t; stays = λ o. fed_open f o }
 
 -- the input's end
 
+-- a write has failed
+pub last_stays : {m : Memory} {h : SessionState} {b : Bool} → b ≡ any_lost h.outcomes → b ≡ true
+    → LastEnsures m h m.store h.engine h.outcomes (Err (record {}))
+last_stays {h = h} p q = record {
+  all = λ text n f. written_after n f.written;
+  written = λ text n f. written_after n f.written;
+  stays = λ o. record { store = refl; engine = refl; outcomes = refl; result = refl };
+}
+  where
+    written_after : {A : Type 0} (n : ℕ) → h.outcomes ≡ all_written n → A
+    written_after n w =
+        let e = written_open n w in absurd (let i : ◌≡◌ {A = ℕ} 0 1 = cc in omega arith)
+
 module _ {line c s : List ℕ} {h : SessionState} where
   -- nothing is behind the lines that were run
-  pub last_none : h.squeeze.length ≤ 0 → LastEnsures (memory line c s) h s h.engine h.outcomes (Ok tt)
-  last_none z = record {
+  pub last_none : {b : Bool} → b ≡ any_lost h.outcomes → b ≡ false → h.squeeze.length ≤ 0
+      → LastEnsures (memory line c s) h s h.engine h.outcomes (Ok tt)
+  last_none p q z = record {
+    stays = λ o. absurd (let i : ◌≡◌ {A = ℕ} 0 1 = cc in omega arith);
     all = λ text n f. rw (all_run text n f) f.to.ran;
     written = λ text n f. rw (all_run text n f, f.count) f.written;
   }
@@ -262,18 +294,19 @@ module _ {line c s : List ℕ} {h : SessionState} where
       → lines text ≡ f.to.done ++ (f.to.behind ∷ [])
   last_lines z k text n f =
       let v = f.seen in
-      let q = k.line.fits in
+      let q = k.fits in
       let b : length (take h.squeeze.length line) ≡ h.squeeze.length =
-      length-take-le _ line (omega (arith, q.tabs, q.width, q.short, k.line.room)) in
+      length-take-le _ line (omega (arith, q.tabs, q.width, q.short, k.room)) in
       let o : 0 < length (squeezed f.to.behind) = rw (← v.squeezing.kept) (omega arith) in
       rw (append-nil text, append-nil f.to.behind, line_kept v.unbroken o) at (f.to.split [])
 
-  pub last_line : {line' c' s' : List ℕ} {e' : Contents} {o : List Bool} {r : Result ⊤ WriteFailed}
-      → 0 < h.squeeze.length
+  pub last_line : {line' c' s' : List ℕ} {e' : Contents} {o : List Bool} {r : Result ⊤ WriteFailed} {b : Bool}
+      → b ≡ any_lost h.outcomes → b ≡ false → 0 < h.squeeze.length
       → length s' ≡ length s → FeedRequires (memory line c s) h
       → AnswerEnsures (memory line c s) h.squeeze h.engine (memory line' c' s') e' → PutEnsures h.outcomes o r
       → LastEnsures (memory line c s) h s' e' o r
-  last_line {r = r} z n k a w = record {
+  last_line {r = r} p q z n k a w = record {
+    stays = λ o. absurd (let i : ◌≡◌ {A = ℕ} 0 1 = cc in omega arith);
     all = λ text m f.
         rw (last_lines z k text m f)
         (after_more f.to.behind n f.to.ran (a.tally f.to.behind f.seen.unbroken f.seen.squeezing));

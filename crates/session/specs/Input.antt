@@ -5,7 +5,7 @@ use Rattle.stdin.specs.Stdin.{PossibleRead}
 use Rattle.stdin.specs.Star.{Star}
 use Rattle.text.specs.Text.{Bytes}
 use Rattle.session.specs.Answer.{Memory, SessionState}
-use Rattle.session.specs.Feed.{AfterLinesBefore, FeedInvariant, FeedEnsures}
+use Rattle.session.specs.Feed.{AfterLinesBefore, FeedRequires, FeedInvariant, FeedEnsures}
 use Rattle.session.specs.Output.{LastLost}
 use Rattle.session.specs.declared.output.WriteFailed.{WriteFailed}
 use Rattle.session.specs.declared.outcome.Stopped.{Stopped}
@@ -66,6 +66,7 @@ Received text m h (Err Unwritten) =
 
 pub record ReceiveEnsures (m₀ : Memory) (h₀ : SessionState) (m : Memory) (h : SessionState)
     (r : Result ⊤ Stopped) : Type 0 where
+  pub requires : FeedRequires m h
   pub text : Bytes
   pub received : Received text m h r
   pub reads : Reads m₀ h₀ m h r

@@ -17,10 +17,7 @@ pub input_start : {m : Memory} {s₀ : List ℕ} {q : Squeeze} {e : Contents} {o
     → NoneEnsures q → EngineStartEnsures m.cache s₀ m.store e → o ≡ []
     → FeedInvariant [] 0 m (record { squeeze = q; engine = e; outcomes = o })
 input_start {m} h b a p = record {
-  requires = record {
-    line = record { room = h; fits = b.fits; invariant = a.invariant };
-    none_lost = record { count = 0; is = p };
-  };
+  requires = record { room = h; fits = b.fits; invariant = a.invariant };
   to = record { done = []; behind = []; split = λ rest. refl; ran = after_none a };
   count = refl;
   written = p;
@@ -43,7 +40,7 @@ module _ {m₀ : Memory} {h₀ : SessionState} {m : Memory} {h : SessionState} (
   take_more : {n : ℕ} → TakeEnsures n m h m' h' (Ok tt) → InputInvariant m' h'
   take_more {n} w =
       let i = v.invariant in
-      let x = w.feeds.on i.text i.lines i.invariant in
+      let x = w.feeds.takes.on i.text i.lines i.invariant in
       record { text = i.text ++ take n w.part; lines = x.lines; invariant = x.invariant }
 
   pub receive_step : (n : ℕ) → n ≢ 0 → TakeEnsures n m h m' h' (Ok tt) → ReceiveLoop m₀ h₀ m' h'
@@ -55,6 +52,7 @@ module _ {m₀ : Memory} {h₀ : SessionState} {m : Memory} {h : SessionState} (
   receive_end e w =
       let i = take_more w in
       record {
+        requires = i.invariant.requires;
         text = i.text;
         received = (i.lines, i.invariant);
         reads = record {
@@ -68,14 +66,16 @@ module _ {m₀ : Memory} {h₀ : SessionState} {m : Memory} {h : SessionState} (
   receive_failed ReadFailed w =
       let i = v.invariant in
       record {
+        requires = rw (w.0, w.1) i.invariant.requires;
         text = i.text;
         received = (i.lines, rw (w.0, w.1) i.invariant);
         reads = record { before = record { memory = m; state = h }; more = v.more; last = w };
       }
   receive_failed Unwritten w =
       let i = v.invariant in
-      let x = w.1.feeds.on i.text i.lines i.invariant in
+      let x = w.1.feeds.takes.on i.text i.lines i.invariant in
       record {
+        requires = w.1.feeds.takes.requires;
         text = i.text ++ take w.0 w.1.part;
         received = (x.to, x.written);
         reads = record { before = record { memory = m; state = h }; more = v.more; last = w };

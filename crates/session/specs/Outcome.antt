@@ -1,10 +1,10 @@
 -- How a session ends: what was run of its input.
-use Rattle.std.specs.Prelude.{◌≡◌, ◌≢◌, Bool, List, ℕ, length, ⊤, Result, Ok, Err}
+use Rattle.std.specs.Prelude.{◌≡◌, ◌≢◌, Bool, true, List, ℕ, length, ⊤, Result, Ok, Err}
 use Rattle.text.specs.Text.{Bytes, lines}
 use Rattle.text.specs.Engine.{Contents}
 use Rattle.session.specs.Answer.{Memory, SessionState}
 use Rattle.session.specs.Feed.{AfterLines, AfterFirstLines, AfterEndedLines, FeedRequires, FeedInvariant}
-use Rattle.session.specs.Output.{all_written, LastLost}
+use Rattle.session.specs.Output.{all_written, any_lost, LastLost}
 use Rattle.session.specs.declared.outcome.Stopped.{Stopped}
 use Rattle.session.specs.declared.outcome.Stopped.TheVariants.{ReadFailed, WriteFailed as Unwritten}
 
@@ -16,13 +16,6 @@ AfterInput (Ok _) text s e o = AfterLines (lines text) s e × (o ≡ all_written
 AfterInput (Err ReadFailed) text s e o = (a : AfterEndedLines text s e) × (o ≡ all_written (length a.to.done))
 AfterInput (Err Unwritten) text s e o = (a : AfterFirstLines text s e) × LastLost (length a.done) o
 
--- The input has ended, and reading has not failed: every line was run, its last one's answer written or not.
-pub record CloseEnsures (m : Memory) (h : SessionState) (s' : List ℕ) (e' : Contents) (o' : List Bool)
-    (r : Result ⊤ Stopped) : Type 0 where
-  pub on : (text : Bytes) (n : ℕ) → FeedInvariant text n m h → AfterInput r text s' e' o'
-  pub all : (text : Bytes) (n : ℕ) → FeedInvariant text n m h → AfterLines (lines text) s' e'
-  pub read : r ≢ Err ReadFailed
-
 -- nothing more was run or written, and the engine is the one that was left
 pub record NothingRun (m : Memory) (h : SessionState) (x : Stopped) (s' : List ℕ) (e' : Contents) (o' : List Bool)
     (r : Result ⊤ Stopped) : Type 0 where
@@ -30,6 +23,14 @@ pub record NothingRun (m : Memory) (h : SessionState) (x : Stopped) (s' : List �
   pub store : s' ≡ m.store
   pub engine : e' ≡ h.engine
   pub outcomes : o' ≡ h.outcomes
+
+-- The input has ended, and reading has not failed: every line was run, its last one's answer written or not.
+pub record CloseEnsures (m : Memory) (h : SessionState) (s' : List ℕ) (e' : Contents) (o' : List Bool)
+    (r : Result ⊤ Stopped) : Type 0 where
+  pub on : (text : Bytes) (n : ℕ) → FeedInvariant text n m h → AfterInput r text s' e' o'
+  pub all : (text : Bytes) (n : ℕ) → FeedInvariant text n m h → AfterLines (lines text) s' e'
+  pub read : r ≢ Err ReadFailed
+  pub lost : any_lost h.outcomes ≡ true → NothingRun m h Unwritten s' e' o' r
 
 -- unless a write has failed, the bytes of a line that has begun are in the buffer
 abbrev pub FinishRequires : Memory → SessionState → Result ⊤ Stopped → Type 0

@@ -34,6 +34,7 @@ module _ {m : Memory} {h : SessionState} {s' : List ℕ} {e' : Contents} {o' : L
     on = λ text n f. (v.all text n f, v.written text n f);
     all = v.all;
     read = λ q. let i : ◌≡◌ {A = ℕ} 0 1 = cc in omega arith;
+    lost = λ o. absurd (let e = (v.stays o).result in let i : ◌≡◌ {A = ℕ} 0 1 = cc in omega arith);
   })
 
   pub finish_unwritten : {x : WriteFailed} → LastEnsures m h s' e' o' (Err x)
@@ -42,6 +43,9 @@ module _ {m : Memory} {h : SessionState} {s' : List ℕ} {e' : Contents} {o' : L
     on = λ text n f. lost_last (v.all text n f) (v.written text n f);
     all = v.all;
     read = λ q. let i : ◌≡◌ {A = ℕ} 0 1 = cc in omega arith;
+    lost = λ o.
+        let y = v.stays o in
+        record { result = refl; store = y.store; engine = y.engine; outcomes = y.outcomes };
   })
 
 pub finish_stopped : (m : Memory) (h : SessionState) {x : Stopped} {t : Result ⊤ Stopped} {r : Result ⊤ Stopped}

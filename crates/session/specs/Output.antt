@@ -1,5 +1,5 @@
 -- What the writes have said. Each line that is run has one write; after one that failed there is no other.
-use Rattle.std.specs.Prelude.{◌≡◌, Bool, true, false, if◌then◌else◌, List, [], ◌∷◌, ◌++◌, ℕ, ◌+◌, replicate, is_ok, ⊤}
+use Rattle.std.specs.Prelude.{◌≡◌, Bool, true, false, List, [], ◌∷◌, ◌++◌, ℕ, ◌+◌, replicate, is_ok, ⊤}
 use Rattle.std.specs.Prelude.{Result, Ok, Err}
 use Rattle.session.specs.declared.output.WriteFailed.{WriteFailed}
 
@@ -11,14 +11,18 @@ all_written n = replicate n true
 abbrev pub one_lost : ℕ → List Bool
 one_lost n = all_written n ++ (false ∷ [])
 
--- no write has failed
-pub record NoneLost (o : List Bool) : Type 0 where
-  pub count : ℕ
-  pub is : o ≡ all_written count
+-- whether a write has failed
+unfoldable pub any_lost : List Bool → Bool
+any_lost [] = false
+any_lost (true ∷ o) = any_lost o
+any_lost (false ∷ o) = true
 
--- what the writes have said, after one more
-abbrev pub PutEnsures : List Bool → List Bool → Result ⊤ WriteFailed → Type 0
-PutEnsures o o' r = o' ≡ o ++ (is_ok r ∷ [])
+-- What the writes have said, after one more: where none has failed, what this one said comes last. Where one has
+-- failed, nothing is added, and the answer says that it was not written.
+pub record PutEnsures (o o' : List Bool) (r : Result ⊤ WriteFailed) : Type 0 where
+  pub grows : any_lost o ≡ false → o' ≡ o ++ (is_ok r ∷ [])
+  pub stays : any_lost o ≡ true → o' ≡ o
+  pub refused : any_lost o ≡ true → r ≡ Err (record {})
 
 -- Each of so many lines has had one write, and the last one's alone failed.
 pub record LastLost (n : ℕ) (o : List Bool) : Type 0 where
@@ -31,6 +35,7 @@ abbrev pub OneWriteEach : Result ⊤ WriteFailed → ℕ → List Bool → Type 
 OneWriteEach (Ok _) n o = o ≡ all_written n
 OneWriteEach (Err _) n o = LastLost n o
 
--- what is kept of standard output's writes: how many succeeded, and whether the one after them failed
-abbrev pub recorded : ℕ → Bool → List Bool
-recorded n failed = if failed then one_lost n else all_written n
+-- what is kept of standard output's writes: so many succeeded; or so many did, and the one after them failed
+abbrev pub recorded : Result ℕ ℕ → List Bool
+recorded (Ok n) = all_written n
+recorded (Err n) = one_lost n

@@ -1,49 +1,77 @@
 -- One write more.
-use Rattle.std.specs.Prelude.{◌≡◌, refl, Bool, true, false, List, [], ◌∷◌, ◌++◌, ℕ, zero, suc, ◌+◌, ⊤, Result, Ok, Err}
-use Rattle.std.proofs.Common.{ap, ◌∙◌, sym, add-one, arith}
-use Rattle.text.specs.SplitLaws.{head_same}
-use Rattle.session.specs.Output.{all_written, one_lost, NoneLost, PutEnsures, LastLost, OneWriteEach, recorded}
+use Rattle.std.specs.Prelude.{◌≡◌, ◌≢◌, refl, Bool, true, false, List, [], ◌∷◌, ◌++◌, ℕ, zero, suc, ◌+◌, is_err, ⊤}
+use Rattle.std.specs.Prelude.{Result, Ok, Err}
+use Rattle.std.proofs.Common.{ap, ◌∙◌, sym, add-one}
+use Rattle.std.proofs.lemmas.Bool.{false≢true}
+use Rattle.session.specs.Output.{all_written, one_lost, any_lost, PutEnsures, LastLost, OneWriteEach, recorded}
 use Rattle.session.specs.declared.output.WriteFailed.{WriteFailed}
 
 written_more : (n : ℕ) → all_written n ++ (true ∷ []) ≡ all_written (suc n)
 written_more zero = refl
 written_more (suc n) = ap (λ (x : List Bool). true ∷ x) (written_more n)
 
-module _ {o o' : List Bool} where
-  -- a write that succeeded
-  pub put_written : (n : ℕ) → o ≡ all_written n → PutEnsures o o' (Ok tt) → o' ≡ all_written (n + 1)
-  put_written n p w = rw (p, written_more n) at w ∙ rw (add-one n)
+none_lost : (n : ℕ) → any_lost (all_written n) ≡ false
+unfolding any_lost
+none_lost zero = refl
+none_lost (suc n) = none_lost n
 
-  pub none_lost_more : NoneLost o → PutEnsures o o' (Ok tt) → NoneLost o'
-  none_lost_more k w = record { count = k.count + 1; is = put_written k.count k.is w }
+some_lost : (n : ℕ) → any_lost (one_lost n) ≡ true
+unfolding any_lost
+some_lost zero = refl
+some_lost (suc n) = some_lost n
 
-  -- a write that failed
-  pub put_lost : {x : WriteFailed} (n : ℕ) → o ≡ all_written n → PutEnsures o o' (Err x) → LastLost (n + 1) o'
-  put_lost n p w = record { before = n; count = refl; is = rw p at w }
+module _ {o : List Bool} where
+  pub written_open : (n : ℕ) → o ≡ all_written n → any_lost o ≡ false
+  written_open n p = rw p (none_lost n)
 
-  pub put_each : (n : ℕ) → o ≡ all_written n → (r : Result ⊤ WriteFailed) → PutEnsures o o' r
-      → OneWriteEach r (n + 1) o'
-  put_each n p (Ok _) w = put_written n p w
-  put_each n p (Err _) w = put_lost n p w
+  module _ {o' : List Bool} where
+    -- a write that succeeded
+    pub put_written : (n : ℕ) → o ≡ all_written n → PutEnsures o o' (Ok tt) → o' ≡ all_written (n + 1)
+    put_written n p w = rw (p, written_more n) at (w.grows (written_open n p)) ∙ rw (add-one n)
 
--- what is kept of standard output's writes: before another one none has failed
+    -- a write that failed
+    pub put_lost : {x : WriteFailed} (n : ℕ) → o ≡ all_written n → PutEnsures o o' (Err x) → LastLost (n + 1) o'
+    put_lost n p w = record { before = n; count = refl; is = rw p at (w.grows (written_open n p)) }
 
-rest_written : {s : List Bool} (k : ℕ) → true ∷ s ≡ all_written k → NoneLost s
-rest_written zero p = let i : ◌≡◌ {A = ℕ} 0 1 = cc in absurd (omega arith)
-rest_written (suc k) p = record { count = k; is = ap (elim [ [] ↦ [] | (_ ∷ u) ↦ u ]) p }
+    pub put_each : (n : ℕ) → o ≡ all_written n → (r : Result ⊤ WriteFailed) → PutEnsures o o' r
+        → OneWriteEach r (n + 1) o'
+    put_each n p (Ok _) w = put_written n p w
+    put_each n p (Err _) w = put_lost n p w
 
-last_written : (k : ℕ) → false ∷ [] ≡ all_written k → false ≡ true
-last_written zero p = let i : ◌≡◌ {A = ℕ} 0 1 = cc in absurd (omega arith)
-last_written (suc k) p = head_same p
+-- what is kept of standard output's writes
 
-one_lost_fails : (n : ℕ) → NoneLost (one_lost n) → false ≡ true
-one_lost_fails zero w = last_written w.count w.is
-one_lost_fails (suc n) w = one_lost_fails n (rest_written w.count w.is)
+pub recorded_lost : (said : Result ℕ ℕ) → is_err said ≡ any_lost (recorded said)
+recorded_lost (Ok n) = sym (none_lost n)
+recorded_lost (Err n) = sym (some_lost n)
 
-recorded_open : (n : ℕ) (failed : Bool) → NoneLost (recorded n failed) → failed ≡ false
-recorded_open n false w = refl
-recorded_open n true w = sym (one_lost_fails n w)
+module _ {said : Result ℕ ℕ} where
+  pub recorded_written : {n : ℕ} → said ≡ Ok n → PutEnsures (recorded said) (all_written (n + 1)) (Ok tt)
+  recorded_written {n} p = rw p (record {
+    grows = λ _. rw (add-one n, written_more n);
+    stays = λ q. absurd (false≢true (sym (none_lost n) ∙ q));
+    refused = λ q. absurd (false≢true (sym (none_lost n) ∙ q));
+  })
 
-pub recorded_lost : (n : ℕ) (failed : Bool) → NoneLost (recorded n failed)
-    → one_lost n ≡ recorded n failed ++ (false ∷ [])
-recorded_lost n failed w = rw (recorded_open n failed w)
+  pub recorded_failed : {n : ℕ} {x : WriteFailed} → said ≡ Ok n → PutEnsures (recorded said) (one_lost n) (Err x)
+  recorded_failed {n} p = rw p (record {
+    grows = λ _. refl;
+    stays = λ q. absurd (false≢true (sym (none_lost n) ∙ q));
+    refused = λ q. absurd (false≢true (sym (none_lost n) ∙ q));
+  })
+
+after_failed : (said : Result ℕ ℕ) → ((n : ℕ) → said ≢ Ok n)
+    → PutEnsures (recorded said) (recorded said) (Err (record {}))
+after_failed (Ok n) h = absurd (h n refl)
+after_failed (Err n) h = record {
+  grows = λ q. absurd (false≢true (sym q ∙ some_lost n));
+  stays = λ _. refl;
+  refused = λ _. refl;
+}
+
+-- after a write that failed
+pub recorded_refused : {said : Result ℕ ℕ} → ((n : ℕ) → said ≢ Ok n)
+    → PutEnsures (recorded said) (recorded said) (Err (record {}))
+recorded_refused h = after_failed _ h
+
+-- one write more, by what it said
+pub ruleset one_more_recorded = (recorded_written, recorded_failed, recorded_refused)

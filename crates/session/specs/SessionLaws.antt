@@ -3,7 +3,7 @@ use Rattle.std.specs.Prelude.{Bool, List, [], ℕ, ⊤, Result, Ok, Err}
 use Rattle.text.specs.Text.{Bytes}
 use Rattle.text.specs.Engine.{Contents}
 use Rattle.session.specs.Answer.{Memory, SessionState}
-use Rattle.session.specs.Feed.{FeedInvariant}
+use Rattle.session.specs.Feed.{FeedRequires, FeedInvariant}
 use Rattle.session.specs.Input.{Received, ReceiveEnsures}
 use Rattle.session.specs.Outcome.{AfterInput, FinishRequires, FinishEnsures}
 use Rattle.session.specs.OutcomeLaws.{lost_before}
@@ -11,15 +11,14 @@ use Rattle.session.specs.Session.{SessionEnsures}
 use Rattle.session.specs.declared.outcome.Stopped.{Stopped}
 use Rattle.session.specs.declared.outcome.Stopped.TheVariants.{ReadFailed, WriteFailed as Unwritten}
 
-finish_may : (text : Bytes) (m : Memory) (h : SessionState) (t : Result ⊤ Stopped) → Received text m h t
-    → FinishRequires m h t
-finish_may text m h (Ok _) v = v.1.requires
-finish_may text m h (Err ReadFailed) v = v.1.requires
-finish_may text m h (Err Unwritten) v = tt
+finish_may : (m : Memory) (h : SessionState) (t : Result ⊤ Stopped) → FeedRequires m h → FinishRequires m h t
+finish_may m h (Ok _) v = v
+finish_may m h (Err ReadFailed) v = v
+finish_may m h (Err Unwritten) v = tt
 
 pub finish_requires : {m₀ : Memory} {h₀ : SessionState} {m : Memory} {h : SessionState} {t : Result ⊤ Stopped}
     → ReceiveEnsures m₀ h₀ m h t → FinishRequires m h t
-finish_requires {m = m} {h} {t} v = finish_may v.text m h t v.received
+finish_requires {m = m} {h} {t} v = finish_may m h t v.requires
 
 what_ran : (text : Bytes) (m : Memory) (h : SessionState) (s' : List ℕ) (e' : Contents) (o' : List Bool)
     (r t : Result ⊤ Stopped) → Received text m h t → FinishEnsures m h t s' e' o' r → AfterInput r text s' e' o'

@@ -1,7 +1,6 @@
 // The answer to one line.
-ghost use Rattle.std.specs.Prelude.{◌≤◌, length, take};
-ghost use Rattle.session.specs.Answer.{memory_of, state_of, KeepsSession, AnswerRequires, AnswerEnsures, ReplyEnsures};
-ghost use Rattle.session.specs.Feed.{FeedRequires};
+ghost use Rattle.std.specs.Prelude.{◌≡◌, ◌≤◌, length, take};
+ghost use Rattle.session.specs.Answer.{memory_of, KeepsSession, AnswerRequires, AnswerEnsures, ReplyEnsures};
 ghost use Rattle.session.specs.Output.{PutEnsures};
 ghost use Rattle.text.specs.Limits.{answer_room};
 ghost use Rattle.text.specs.Engine.{contents, IsEngine, KeepsEngine};
@@ -15,7 +14,8 @@ use text::squeeze::Squeeze;
 
 // A session on standard input: the line that has come so far, squeezed into the front of `line` (a slice with a length
 // beside it, and no Vec: the memory is fixed, with no heap), and the engine after the lines before it. The engine is a
-// reference: were it held by value, no proof would know what its store holds once the session is gone.
+// reference: were it held by value, no proof would know what its store holds once the session is gone. (What is asked
+// of it stands at each method, since each names the session before and after anyway.)
 #[derive(Drop)]
 pub struct Session<'l, 'b, 'a> {
     pub line: &'l mut [u8],
@@ -29,6 +29,7 @@ impl<'l, 'b, 'a> Session<'l, 'b, 'a> {
         requires { AnswerRequires (memory_of self.old) self.old.squeeze (contents self.old.engine.now)
             × (answer_room ≤ length out.old) }
         ensures loans { KeepsSession self.old self.new }
+        ensures squeeze { self.new.squeeze ≡ self.old.squeeze }
         ensures replies { ReplyEnsures (memory_of self.old) self.old.squeeze (contents self.old.engine.now)
             (memory_of self.new) (contents self.new.engine.now) out.new result }
     {
@@ -40,8 +41,9 @@ impl<'l, 'b, 'a> Session<'l, 'b, 'a> {
 
     // Runs the line and writes its answer.
     pub fn answer<W: Output>(&mut self, output: &mut W) -> Result<(), WriteFailed>
-        requires { FeedRequires (memory_of self.old) (state_of self.old (W.outcomes output.old)) }
+        requires { AnswerRequires (memory_of self.old) self.old.squeeze (contents self.old.engine.now) }
         ensures loans { KeepsSession self.old self.new }
+        ensures squeeze { self.new.squeeze ≡ self.old.squeeze }
         ensures answers { AnswerEnsures (memory_of self.old) self.old.squeeze (contents self.old.engine.now)
             (memory_of self.new) (contents self.new.engine.now) }
         ensures writes { PutEnsures (W.outcomes output.old) (W.outcomes output.new) result }

@@ -8,7 +8,7 @@ use crate::outcome::Stopped;
 use crate::output::Output;
 use std::io::Stdin;
 
-// How many bytes are read at once.
+// How many bytes are read at once. (An array: the memory is fixed, with no heap.)
 const PART: usize = 4096;
 
 impl<'l, 'b, 'a> Session<'l, 'b, 'a> {
@@ -28,9 +28,9 @@ impl<'l, 'b, 'a> Session<'l, 'b, 'a> {
     // Reads to the input's end, or to the first answer that could not be written. A proved loop has to end, and nothing
     // says that an input does: no run uses this count up.
     //
-    // The program `verdict` has this loop too, over a buffer. One for both is no plainer: it takes a trait in `stdin`
-    // with an error type, what may come, a relation for a part, a law and steps of its own (130 lines with the proofs,
-    // of which `verdict` wins back 70), and here a struct over session and output, whose loans that relation carries.
+    // The program `verdict` has this loop too, over a buffer. One for both is no plainer: it would take a trait with an
+    // error type, what may come, a relation for a part and a law that another may come, and here a struct over session
+    // and output.
     pub fn receive<W: Output>(&mut self, stdin: Stdin, output: &mut W) -> Result<(), Stopped>
         requires { InputInvariant (memory_of self.old) (state_of self.old (W.outcomes output.old)) }
         ensures loans { KeepsSession self.old self.new }

@@ -29,7 +29,7 @@ use text::engine::Engine;
 use text::limits::LINE_ROOM;
 use text::squeeze::Squeeze;
 
-// 2048 nodes of 16 bytes.
+// 2048 nodes of 16 bytes. (Each program says for itself what memory it has.)
 const STORE: usize = 32768;
 
 // 4096 remembered results of four words.

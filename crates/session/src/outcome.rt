@@ -51,6 +51,7 @@ impl<'l, 'b, 'a> Session<'l, 'b, 'a> {
     ) -> Result<(), Stopped>
         requires { FinishRequires (memory_of self.old) (state_of self.old (W.outcomes output.old)) received }
         ensures loans { KeepsSession self.old self.new }
+        ensures squeeze { self.new.squeeze ≡ self.old.squeeze }
         ensures finishes { FinishEnsures (memory_of self.old) (state_of self.old (W.outcomes output.old)) received
             (memory_of self.new).store (contents self.new.engine.now) (W.outcomes output.new) result }
     {

@@ -1,6 +1,6 @@
 // What a session does where a write fails.
 ghost use Rattle.std.specs.Prelude.{◌≡◌, [], ◌≤◌, length};
-ghost use Rattle.session.specs.Output.{NoneLost, recorded};
+ghost use Rattle.session.specs.Output.{recorded};
 ghost use Rattle.text.specs.Limits.{line_room};
 
 use crate::answer::Session;
@@ -15,42 +15,46 @@ use text::squeeze::Squeeze;
 // Its first write succeeds, and the second one fails.
 #[derive(Drop)]
 struct OneWrite {
-    written: u64,
-    failed: bool,
+    said: Result<u64, u64>,
 }
 
 impl OneWrite {
     fn new() -> OneWrite
-        ensures { recorded result.written result.failed ≡ [] }
+        ensures { recorded result.said ≡ [] }
     {
-        OneWrite {
-            written: 0,
-            failed: false,
-        }
+        OneWrite { said: Ok(0) }
     }
 }
 
 impl Output for OneWrite {
-    ghost outcomes = { λ w. recorded w.written w.failed };
+    ghost outcomes = { λ w. recorded w.said };
 
+    #[tactic(auto, using(crate::specs::OutputLaws::recorded_lost))]
+    fn lost(&self) -> bool {
+        self.said.is_err()
+    }
+
+    #[tactic(auto, using(crate::specs::OutputLaws::one_more_recorded))]
     fn put(&mut self, _answer: &[u8]) -> Result<(), WriteFailed> {
-        if self.written < 1 {
-            self.written += 1;
+        let Ok(written) = self.said else {
+            return Err(WriteFailed);
+        };
+        if written < 1 {
+            self.said = Ok(written + 1);
             return Ok(());
         }
-        self.failed = true;
+        self.said = Err(written);
         Err(WriteFailed)
     }
 }
 
-// Three lines, and whether each one's answer was written.
-fn feed_three<'l, 'b, 'a>(
+// Three lines, and then a fourth one; whether a failed write was said of both parts.
+fn feed_twice<'l, 'b, 'a>(
     line: &'l mut [u8],
     engine: &'l mut Engine<'b, 'a>,
     output: &mut OneWrite,
 ) -> bool
     requires room { line_room ≤ length line.old }
-    requires none_lost { NoneLost (recorded output.old.written output.old.failed) }
 {
     engine.start();
     let mut session = Session {
@@ -58,9 +62,9 @@ fn feed_three<'l, 'b, 'a>(
         squeeze: Squeeze::none(),
         engine,
     };
-    session
-        .feed(output, b"put\t0\t1\nput\t1\t2\nput\t2\t3\n")
-        .is_ok()
+    let three = session.feed(output, b"put\t0\t1\nput\t1\t2\nput\t2\t3\n");
+    let fourth = session.feed(output, b"put\t3\t4\n");
+    three.is_err() && fourth.is_err()
 }
 
 #[test]
@@ -74,11 +78,11 @@ fn no_line_after_a_failed_write(rt: HostRuntime) -> Result<(), Fail> {
         registers: Registers::empty(),
     };
     let mut output = OneWrite::new();
-    assert!(rt; !feed_three(&mut line, &mut engine, &mut output));
-    assert_eq!(rt; output.written, 1);
-    assert!(rt; output.failed);
-    // The second line is run, its answer lost; the third one is not run.
+    assert!(rt; feed_twice(&mut line, &mut engine, &mut output));
+    assert_eq!(rt; output.said, Err(1));
+    // The second line is run, its answer lost; none after it is.
     assert!(rt; engine.registers.get(1).is_some());
     assert!(rt; engine.registers.get(2).is_none());
+    assert!(rt; engine.registers.get(3).is_none());
     Ok(())
 }

@@ -43,8 +43,7 @@ fn take_off(text: &mut Vec<u8>, end: u8) -> bool
     true
 }
 
-// Reads the bytes up to the next `end` into `text`, without it, and answers whether it came. (The programs that test
-// loop over texts themselves: a function that did could promise nothing, since any read may fail.)
+// Reads the bytes up to the next `end` into `text`, without it, and answers whether it came.
 pub fn read_text<R: BufRead>(input: &mut R, end: u8, text: &mut Vec<u8>) -> io::Result<bool>
     ensures text { OnOk result (IfSome (R.remaining input.old)
         (λ xs. text.new.items ≡ first_piece end xs)) }

@@ -4,7 +4,7 @@ use Rattle.std.specs.Prelude.{Option, Some, None, Result, Ok, Err, IfOk}
 use Rattle.text.specs.Text.{Bytes, bytes, same_bytes, lines, fields, LF, known}
 use Rattle.text.specs.Limits.{most_qubits, most_digits}
 use Rattle.text.specs.Args.{one_number, numbers, one_or_two_numbers}
-use Rattle.text.specs.Names.{one_qubit, two_qubits, Placed}
+use Rattle.text.specs.Names.{one_qubit, two_qubits, Placed, placed_gate, placed_as}
 use Rattle.text.specs.Split.{part, Ends}
 use Rattle.text.specs.declared.args.Args.{Args}
 use Rattle.text.specs.declared.args.Args.TheVariants.{Zero}
@@ -47,6 +47,13 @@ abbrev pub two_qubit_item : ℕ → ℕ → ℕ → Option Gate → Result Item 
 two_qubit_item n p q name =
     known (Err Line) name
     (λ g. ensured (ltb p n) Qubit (ensured (ltb q n) Qubit (ensured (not (eqb p q)) Equal (Ok (item.Gate g)))))
+
+-- the same of either count, where the gate's qubits are checked as `placed_gate` does
+abbrev pub item_placed_as : Result Gate Misplaced → Result Item Fault
+item_placed_as = placed_as (λ g. Ok (item.Gate g)) (λ m. Err (fault_of m))
+
+abbrev pub named_item : ℕ → Option Gate → Result Item Fault
+named_item n name = known (Err Line) name (λ g. item_placed_as (placed_gate n g))
 
 -- ".. wrong count of fields .."
 unfoldable pub gate_item_of : ℕ → Bytes → Args → Result Item Fault
@@ -183,11 +190,10 @@ check_lines n parting count [] = checked_at_end n parting count
 check_lines n parting count (line ∷ ls) =
     continue_check (parting_after (item_of n line) parting (count + 1)) (λ p. check_lines n p (count + 1) ls)
 
--- `check_lines` has read `count` lines, up to a.
-pub record CheckLoop (n : ℕ) (s : Bytes) (a0 a count : ℕ) (parting : Option ℕ) : Type 0 where
-  pub within : a ≤ length s + 1
-  pub small : count ≤ a
-  pub same : check_lines n parting count (lines (drop a s)) ≡ check_lines n None 1 (lines (drop a0 s))
+-- `check_lines` has read `count` lines of s, and `rest` is left.
+pub record CheckLoop (n : ℕ) (s : Bytes) (a0 : ℕ) (rest : Bytes) (count : ℕ) (parting : Option ℕ) : Type 0 where
+  pub small : count + length rest ≤ length s + 1
+  pub same : check_lines n parting count (lines rest) ≡ check_lines n None 1 (lines (drop a0 s))
 
 -- lines after the first, each as what it is
 unfoldable pub items : ℕ → List Bytes → List (Result Item Fault)

@@ -6,9 +6,9 @@ use Rattle.std.proofs.lemmas.Bool.{eqb-false}
 use Rattle.text.specs.Text.{Bytes, bytes, same_bytes, fields, tab, known}
 use Rattle.text.specs.Limits.{most_qubits, most_digits}
 use Rattle.text.specs.Args.{numbers}
-use Rattle.text.specs.Names.{one_qubit, two_qubits, placed_gate, placed_as}
+use Rattle.text.specs.Names.{one_qubit, two_qubits}
 use Rattle.text.specs.Check.{ensured, PlacedItem, one_qubit_item, two_qubit_item, gate_item_of, gate_item_fields}
-use Rattle.text.specs.Check.{item_of, fault_of}
+use Rattle.text.specs.Check.{item_of, named_item}
 use Rattle.text.specs.Check.{ItemRead, GateRead, header_numbers, header_fields, HeaderInRange, header_of, HeaderRead}
 use Rattle.text.specs.Split.{Ends, fields_after}
 use Rattle.text.specs.SplitLaws.{fields_first, part_front}
@@ -21,20 +21,22 @@ use Rattle.text.specs.declared.args.Args.TheVariants.{Zero}
 use Rattle.diagram.specs.declared.gate.Gate.{Gate}
 use Rattle.text.specs.declared.check.Item.TheVariants as item
 use Rattle.text.specs.declared.check.Fault.TheVariants.{Line}
-use Rattle.text.specs.declared.names.Misplaced.{Misplaced}
 
--- a gate of a known name: its qubits are checked as `placed_gate` does
+-- the gate of a name: its qubits are checked as `placed_gate` does
+module _ (n : ℕ) (s : Bytes) where
+  pub one_item_as : (q : ℕ) → named_item n (one_qubit s q) ≡ one_qubit_item n q (one_qubit s q)
+  one_item_as q = go (one_qubit s q) refl
+    where
+      go : (name : Option Gate) → one_qubit s q ≡ name → named_item n name ≡ one_qubit_item n q name
+      go None e = refl
+      go (Some g) e = one_placed_as _ _ n s q e
 
-abbrev pub item_placed_as : Result Gate Misplaced → Result Item Fault
-item_placed_as = placed_as (λ g. Ok (item.Gate g)) (λ m. Err (fault_of m))
-
-module _ (n : ℕ) (s : Bytes) {g : Gate} {r : Result Gate Misplaced} (f : r ≡ placed_gate n g) where
-  pub one_item_as : (q : ℕ) → one_qubit s q ≡ Some g → item_placed_as r ≡ one_qubit_item n q (one_qubit s q)
-  one_item_as q e = rw (f, e) (one_placed_as _ _ n s q e)
-
-  pub two_item_as : (p q : ℕ) → two_qubits s p q ≡ Some g
-      → item_placed_as r ≡ two_qubit_item n p q (two_qubits s p q)
-  two_item_as p q e = rw (f, e) (two_placed_as _ _ n s p q e)
+  pub two_item_as : (p q : ℕ) → named_item n (two_qubits s p q) ≡ two_qubit_item n p q (two_qubits s p q)
+  two_item_as p q = go (two_qubits s p q) refl
+    where
+      go : (name : Option Gate) → two_qubits s p q ≡ name → named_item n name ≡ two_qubit_item n p q name
+      go None e = refl
+      go (Some g) e = two_placed_as _ _ n s p q e
 
 -- The gate of a line is placed on n qubits.
 

@@ -1,14 +1,15 @@
 -- A verdict text checked line by line, with the numbers of lines alone, is what the definition says.
-use Rattle.std.specs.Prelude.{◌≡◌, refl, List, [], ◌∷◌, ℕ, ◌+◌, suc, ◌≤◌, ◌<◌, length, drop}
+use Rattle.std.specs.Prelude.{◌≡◌, refl, List, [], ◌∷◌, ◌++◌, ℕ, ◌+◌, suc, ◌≤◌, ◌<◌, ◌-◌, length, drop, min}
 use Rattle.std.specs.Prelude.{Option, Some, None, Result, Ok, Err, IfOk, take}
-use Rattle.std.proofs.Common.{ap, ◌∙◌, arith}
+use Rattle.std.proofs.Common.{ap, ◌∙◌, arith, length-append, length-drop, length-take-le, drop_of_length-le, take_all}
+use Rattle.std.proofs.Math.Decide.{dec_lt}
 use Rattle.text.specs.Text.{Bytes, LF, lines}
 use Rattle.text.specs.Limits.{most_qubits}
 use Rattle.text.specs.Check.{Reading, lists, fault, parting_after, continue_check, checked_at_end, check_lines, item_of}
 use Rattle.text.specs.Check.{with_second, second_item, second_list, NoFirst, with_first, first_item, first_list}
 use Rattle.text.specs.Check.{CheckLoop, ItemRead, read_lines, read_text, TextRead, after_header, HeaderRead}
 use Rattle.text.specs.Check.{CheckedInRange, checked_of, HeaderInRange, good, faulty}
-use Rattle.text.specs.Split.{part, Ends}
+use Rattle.text.specs.Split.{Ends, line_of}
 use Rattle.text.specs.SplitLaws.{lines_first, lines_none, part_front}
 use Rattle.text.specs.declared.check.Checked.{Checked}
 use Rattle.text.specs.declared.check.FaultAt.{FaultAt}
@@ -83,33 +84,47 @@ check_first n count (line ∷ ls) = go (item_of n line) (check_first n (count + 
         ∙ parted (second_list n (count + 1 + 1) ls) (second_no_first n (count + 1 + 1) ls)
     go (Err f) rec = refl
 
-pub check_loop_start : {n : ℕ} {s : Bytes} {a : ℕ} → 1 ≤ a → a ≤ length s + 1 → CheckLoop n s a a 1 None
-check_loop_start p h = record { within = h; small = p; same = refl }
+pub check_loop_start : {n : ℕ} {s rest : Bytes} {a m : ℕ} → m ≡ min a (length s)
+    → rest ≡ take (length s - m) (drop m s)
+    → CheckLoop n s a rest 1 None
+check_loop_start {n} {s} {rest} {a} {m} q e = record {
+  small = rw e (omega (arith, length-take-le (length s - m) (drop m s) (omega (arith, length-drop m s))));
+  same = ap (λ r. check_lines n None 1 (lines r)) (e ∙ whole);
+}
+  where
+    from_start : drop (min a (length s)) s ≡ drop a s
+    from_start = elim (dec_lt a (length s)) [
+      | yes k ↦ let z : min a (length s) ≡ a = omega arith in rw z
+      | no k ↦ let z : min a (length s) ≡ length s = omega arith in
+          rw (z, drop_of_length-le s {i = length s} (omega arith), drop_of_length-le s {i = a} (omega arith)) refl
+    ]
 
-module _ {n : ℕ} {s : Bytes} {a0 a count : ℕ} {parting : Option ℕ} (c : CheckLoop n s a0 a count parting) where
-  module _ {e : ℕ} {i : Result Item Fault} {x : Result (Option ℕ) FaultAt} (h : a < length s) (r : Ends LF s a e)
-      (j : ItemRead n (part s a e) i) (q : x ≡ parting_after i parting (count + 1)) where
-    continued : continue_check x (λ p. check_lines n p (count + 1) (lines (drop (e + 1) s)))
+    whole : take (length s - m) (drop m s) ≡ drop a s
+    whole = take_all (length s - m) (drop m s) (omega (arith, length-drop m s)) ∙ rw q from_start
+
+module _ {n : ℕ} {s : Bytes} {a0 : ℕ} {rest : Bytes} {count : ℕ} {parting : Option ℕ}
+    (c : CheckLoop n s a0 rest count parting) where
+  module _ {line : Bytes} (part more : Bytes) {i : Result Item Fault} {x : Result (Option ℕ) FaultAt}
+      (l : lines rest ≡ line_of part ∷ lines more) (f : line ≡ line_of part) (j : ItemRead n line i)
+      (q : x ≡ parting_after i parting (count + 1)) where
+    continued : continue_check x (λ p. check_lines n p (count + 1) (lines more))
         ≡ check_lines n None 1 (lines (drop a0 s))
     unfolding check_lines
-    continued = rw q (rw (lines_first h r, ← j.item) at c.same)
+    continued = rw q (rw (l, ← f, ← j.item) at c.same)
 
-    pub check_loop_next : {p : Option ℕ} → x ≡ Ok p → CheckLoop n s a0 (e + 1) (count + 1) p
+    pub check_loop_next : {p : Option ℕ} → rest ≡ part ++ more → 0 < length part → x ≡ Ok p
+        → CheckLoop n s a0 more (count + 1) p
     unfolding continue_check
-    check_loop_next o =
-        record {
-          within = omega (arith, r.within);
-          small = omega (arith, c.small, r.from);
-          same = rw o at continued;
-        }
+    check_loop_next e h o =
+        record { small = omega (arith, c.small, ap length e, length-append part more, h); same = rw o at continued }
 
     pub check_loop_fault : {f : FaultAt} → x ≡ Err f → Err f ≡ check_lines n None 1 (lines (drop a0 s))
     unfolding continue_check
     check_loop_fault o = rw o at continued
 
-  pub check_loop_end : length s ≤ a → checked_at_end n parting count ≡ check_lines n None 1 (lines (drop a0 s))
+  pub check_loop_end : length rest ≡ 0 → checked_at_end n parting count ≡ check_lines n None 1 (lines (drop a0 s))
   unfolding check_lines
-  check_loop_end h = rw (lines_none s a h) at c.same
+  check_loop_end h = rw (lines_none rest 0 (omega (arith, h))) at c.same
 
 -- What is said of a text is the definition's, and its n is 1 to 8.
 

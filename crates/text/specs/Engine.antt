@@ -2,7 +2,7 @@
 use Rattle.std.specs.Prelude.{List, ◌≡◌, ℕ, Result, Err, IsErr, MatchResult, length}
 use Rattle.diagram.specs.Tensor.{indices}
 use Rattle.diagram.specs.Store.{set_of}
-use Rattle.diagram.specs.Registers.{holds_all}
+use Rattle.diagram.specs.Registers.{holds_all, RegistersValid}
 use Rattle.diagram.specs.Invariant.{Invariant}
 use Rattle.diagram.specs.Restore.{RollbackEnsures, RollbackRequires}
 use Rattle.diagram.specs.Cache.{AllEarlier}
@@ -105,6 +105,10 @@ Starts e e' = EngineStartEnsures e'.diagram.now.cache.now e.diagram.now.store.no
 
 abbrev pub IsEngine : Engine → Type 0
 IsEngine e = EngineInvariant e.diagram.now.cache.now e.diagram.now.store.now (contents e)
+
+-- its registers hold edges of the store's nodes
+abbrev pub HoldsEdges : Engine → Type 0
+HoldsEdges e = RegistersValid e.diagram.now.state.count e.registers.all
 
 abbrev pub Sets : Engine → Engine → ℕ → Step indices → Result Answer Refusal → Type 0
 Sets e e' d f a =

@@ -1,10 +1,10 @@
 -- Gate calls (document 01, "Session calls").
 use Rattle.std.specs.Prelude.{List, [], ◌∷◌, ℕ, Option, Some, Result, Ok, Err}
 use Rattle.text.specs.Text.{Bytes, known}
-use Rattle.text.specs.Limits.{last_qubit, most_digits}
+use Rattle.text.specs.Limits.{last_qubit, most_qubits, most_digits}
 use Rattle.text.specs.Number.{number_of}
 use Rattle.text.specs.Args.{one_or_two_numbers, numbers}
-use Rattle.text.specs.Names.{one_qubit, two_qubits}
+use Rattle.text.specs.Names.{one_qubit, two_qubits, placed_gate, placed_as}
 use Rattle.text.specs.Call.{check_range, check_apart, malformed, check_register}
 use Rattle.text.specs.declared.call.Refusal.{Refusal}
 use Rattle.text.specs.declared.call.Refusal.TheVariants.{Name, Range, Equal as Equal'}
@@ -31,6 +31,14 @@ two_qubit_call d p q name =
     known (Err Name) name
     (λ g. check_range p 0 last_qubit (check_range q 0 last_qubit (check_apart p q (Ok (call.Gate d g)))))
 
+-- the same of either count, where the gate's qubits are checked as `placed_gate` does
+abbrev pub call_placed : ℕ → Result Gate Misplaced → Result Call Refusal
+call_placed d = placed_as (λ g. Ok (call.Gate d g)) (λ m. Err (refusal_of m))
+
+abbrev pub named_call : ℕ → Option Gate → Result Call Refusal
+named_call d name = known (Err Name) name (λ g. call_placed d (placed_gate most_qubits g))
+
+-- ".. wrong count of qubits for it"
 abbrev pub gate_call_of : ℕ → Bytes → Args → Result Call Refusal
 gate_call_of d name =
     one_or_two_numbers malformed

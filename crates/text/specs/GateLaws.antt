@@ -1,6 +1,6 @@
 -- Laws of Gate: its fields as the code finds them; what it carries is in range.
-use Rattle.std.specs.Prelude.{◌≡◌, refl, List, [], ◌∷◌, ℕ, ◌≤◌, ◌<◌, length, Some, Bool, true, false, cond}
-use Rattle.std.specs.Prelude.{not, ◌&&◌, leb, ltb, eqb, Result, Ok, Err}
+use Rattle.std.specs.Prelude.{◌≡◌, refl, List, [], ◌∷◌, ℕ, ◌≤◌, ◌<◌, length, Option, Some, None, Bool, true, false}
+use Rattle.std.specs.Prelude.{cond, not, ◌&&◌, leb, ltb, eqb, Ok, Err}
 use Rattle.std.proofs.Common.{arith, ◌∙◌, le-leb, lt-ltb, le-ltb}
 use Rattle.std.proofs.Math.Decide.{dec_lt}
 use Rattle.std.proofs.lemmas.Bool.{lt-leb}
@@ -8,9 +8,9 @@ use Rattle.text.specs.Text.{Bytes, known}
 use Rattle.text.specs.Limits.{most_digits, last_qubit, most_qubits, register_count}
 use Rattle.text.specs.Number.{number_of}
 use Rattle.text.specs.Args.{numbers}
-use Rattle.text.specs.Names.{one_qubit, two_qubits, placed_gate, placed_as}
+use Rattle.text.specs.Names.{one_qubit, two_qubits}
 use Rattle.text.specs.Call.{malformed, Ranged, check_register}
-use Rattle.text.specs.Gate.{gate_call_fields, gate_call_of, one_qubit_call, two_qubit_call, refusal_of}
+use Rattle.text.specs.Gate.{gate_call_fields, gate_call_of, one_qubit_call, two_qubit_call, named_call}
 use Rattle.text.specs.Split.{fields_after, FieldAfter}
 use Rattle.text.specs.SplitLaws.{rest_none, rest_first}
 use Rattle.text.specs.ArgsLaws.{by_count_lem, known_lem}
@@ -19,10 +19,7 @@ use Rattle.text.specs.NamesLaws.{one_placed, known_placed, two_placed, one_place
 use Rattle.text.specs.declared.args.Args.TheVariants.{Zero}
 use Rattle.text.specs.declared.args.Args.{Args}
 use Rattle.diagram.specs.declared.gate.Gate.{Gate}
-use Rattle.text.specs.declared.call.Call.{Call}
-use Rattle.text.specs.declared.call.Refusal.{Refusal}
 use Rattle.text.specs.declared.call.Refusal.TheVariants.{Range, Equal as Equal'}
-use Rattle.text.specs.declared.names.Misplaced.{Misplaced}
 use Rattle.text.specs.declared.call.Call.TheVariants as call
 
 pub gate_none : (s : Bytes) (e : ℕ) → length s ≤ e → malformed ≡ gate_call_fields (fields_after s e)
@@ -41,10 +38,7 @@ module _ {s : Bytes} {e : ℕ} {d : Bytes} {f : ℕ} (x : FieldAfter s e d f) wh
   unfolding gate_call_fields
   gate_fields y = rw (x.is, y.is, rest_first x.inside x.ends, rest_first y.inside y.ends)
 
--- a gate of a known name: its qubits are checked as `placed_gate` does
-
-abbrev pub call_placed : ℕ → Result Gate Misplaced → Result Call Refusal
-call_placed d = placed_as (λ g. Ok (call.Gate d g)) (λ m. Err (refusal_of m))
+-- the gate of a name: its qubits are checked as `placed_gate` does
 
 -- a qubit from 0 to the last is one below 8
 qubit_range : (q : ℕ) → leb 0 q && leb q last_qubit ≡ ltb q most_qubits
@@ -53,12 +47,12 @@ qubit_range q = elim (dec_lt q most_qubits) [
   | no h ↦ rw (le-ltb q most_qubits (omega arith), le-leb 0 q (omega arith), lt-leb q last_qubit (omega arith)) refl
 ]
 
-module _ (d : ℕ) (s : Bytes) {g : Gate} {r : Result Gate Misplaced} (f : r ≡ placed_gate most_qubits g) where
-  pub one_call : (q : ℕ) → one_qubit s q ≡ Some g → call_placed d r ≡ one_qubit_call d q (one_qubit s q)
-  one_call q e = rw (f, e, qubit_range q) (one_placed_as _ _ most_qubits s q e)
+module _ (d : ℕ) (s : Bytes) {g : Gate} where
+  one_call : (q : ℕ) → one_qubit s q ≡ Some g → named_call d (Some g) ≡ one_qubit_call d q (Some g)
+  one_call q e = rw (qubit_range q) (one_placed_as _ _ most_qubits s q e)
 
-  pub two_call : (p q : ℕ) → two_qubits s p q ≡ Some g → call_placed d r ≡ two_qubit_call d p q (two_qubits s p q)
-  two_call p q e = rw (f, e, qubit_range p, qubit_range q)
+  two_call : (p q : ℕ) → two_qubits s p q ≡ Some g → named_call d (Some g) ≡ two_qubit_call d p q (Some g)
+  two_call p q e = rw (qubit_range p, qubit_range q)
       (two_placed_as _ _ most_qubits s p q e ∙ go (ltb p most_qubits) (ltb q most_qubits) (eqb p q))
     where
       go : (b c same : Bool)
@@ -66,6 +60,21 @@ module _ (d : ℕ) (s : Bytes) {g : Gate} {r : Result Gate Misplaced} (f : r ≡
           ≡ cond b (cond c (cond same (Err Equal') (Ok (call.Gate d g))) (Err Range)) (Err Range)
       go b c true = refl
       go b c false = refl
+
+module _ (d : ℕ) (s : Bytes) where
+  pub one_named : (q : ℕ) → named_call d (one_qubit s q) ≡ one_qubit_call d q (one_qubit s q)
+  one_named q = go (one_qubit s q) refl
+    where
+      go : (name : Option Gate) → one_qubit s q ≡ name → named_call d name ≡ one_qubit_call d q name
+      go None e = refl
+      go (Some g) e = one_call d s q e
+
+  pub two_named : (p q : ℕ) → named_call d (two_qubits s p q) ≡ two_qubit_call d p q (two_qubits s p q)
+  two_named p q = go (two_qubits s p q) refl
+    where
+      go : (name : Option Gate) → two_qubits s p q ≡ name → named_call d name ≡ two_qubit_call d p q name
+      go None e = refl
+      go (Some g) e = two_call d s p q e
 
 one_ranged : (d q : ℕ) (name : Bytes) → d < register_count → Ranged (one_qubit_call d q (one_qubit name q))
 one_ranged d q name h =

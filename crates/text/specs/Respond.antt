@@ -55,6 +55,21 @@ pub record ReplyEnsures (c' s s' : List ℕ) (e : Contents) (x : Result Call Ref
   pub refused : RefusedUnchanged s s' e r
   pub forgets : ForgetsRead x c' r
 
+-- the same for a call that changes neither store nor cache, over every cache; and, where it does not read the store,
+-- over every store
+pub record ReadEnsures (s : List ℕ) (e : Contents) (x : Call) (r : Reply) : Type 0 where
+  pub on : (c : List ℕ) → EngineInvariant c s e → RespondEnsures c s s e x r
+
+pub record PureEnsures (e : Contents) (x : Call) (r : Reply) : Type 0 where
+  pub on : (s : List ℕ) → ReadEnsures s e x r
+
+-- the same, of an engine e that it leaves as it was
+abbrev pub ReadResponds : Engine → Call → Result Answer Refusal → Type 0
+ReadResponds e x a = ReadEnsures e.diagram.now.store.now (contents e) x (reply a e)
+
+abbrev pub PureResponds : Engine → Call → Result Answer Refusal → Type 0
+PureResponds e x a = PureEnsures (contents e) x (reply a e)
+
 -- the same, of an engine e before the call and e' after it
 abbrev pub Responds : Engine → Engine → Call → Result Answer Refusal → Type 0
 Responds e e' x a =

@@ -1,6 +1,6 @@
 -- The parts of a text as the code finds them.
 use Rattle.std.specs.Prelude.{cond, [], ◌∷◌, ◌++◌, List, ◌≡◌, ℕ, ◌-◌, suc, ◌+◌, ◌≤◌, ◌<◌, take, drop, length, eqb}
-use Rattle.text.specs.Text.{Bytes, fields, tab, LF}
+use Rattle.text.specs.Text.{Bytes, fields, tab, LF, same_bytes}
 
 -- the part of a text from a to e, `&s[a..e]`
 abbrev pub part : Bytes → ℕ → ℕ → Bytes
@@ -35,6 +35,10 @@ pub record FieldAfter (s : Bytes) (e : ℕ) (field : Bytes) (f : ℕ) : Type 0 w
   pub inside : e < length s
   pub ends : Ends tab s (e + 1) f
   pub is : field ≡ part s (e + 1) f
+
+-- "a last part without LF counts": a line without its LF, which the last may lack
+unfoldable pub line_of : Bytes → Bytes
+line_of part = cond (same_bytes (drop (length part - 1) part) (LF ∷ [])) (take (length part - 1) part) part
 
 -- the text has no b
 abbrev pub Without : ℕ → Bytes → Type 0

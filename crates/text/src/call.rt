@@ -105,8 +105,8 @@ fn check_lowered(m: Mask) -> Result<(), Refusal>
     check_range(m, 0, LAST_MASK)
 }
 
-// Each word has its function, with a line for each field's check. `drop` and `on` differ in the call alone, but a
-// generic one would take a closure for two lines.
+// Each word has its function, with a line for each field's check. `drop` and `on` differ in the call alone, `put`,
+// `unit` and `at` in a bound too, but a generic one would take a closure for two lines.
 fn put(d: RegisterNumber, w: Weight) -> Result<Call, Refusal>
     ensures { result ≡ call_of Word.Put (Args.Two d w) }
 {

@@ -2,16 +2,15 @@
 ghost use Rattle.std.specs.Prelude.{◌≡◌, ◌+◌, ◌≤◌, length, drop, None};
 ghost use Rattle.text.specs.Text.{lines};
 ghost use Rattle.text.specs.Ruling.{fault_number};
-ghost use Rattle.text.specs.Names.{one_qubit, two_qubits};
 ghost use Rattle.text.specs.Check.{HeaderRead, ItemRead, IsGate, GateRead, TextRead};
-ghost use Rattle.text.specs.Check.{parting_after, check_lines, one_qubit_item, two_qubit_item};
-ghost use Rattle.text.specs.Check.{gate_item_of, item_of, header_numbers, fault_of};
+ghost use Rattle.text.specs.Check.{parting_after, check_lines, named_item, gate_item_of, item_of};
+ghost use Rattle.text.specs.Check.{header_numbers, fault_of};
 
 use crate::args::Args;
 use crate::limits::{LineNumber, MOST_DIGITS, MOST_QUBITS};
 use crate::names::Misplaced;
 use crate::{args, names, split};
-use diagram::gate::{Gate, Qubit, QubitCount};
+use diagram::gate::{Gate, QubitCount};
 
 // Why a text is refused, with document 01's number.
 #[derive(Clone, Copy)]
@@ -65,17 +64,11 @@ pub struct Checked {
     pub count: usize,
 }
 
-fn one_qubit_item(n: QubitCount, name: &[u8], q: Qubit) -> Result<Item, Fault>
-    ensures { result ≡ one_qubit_item n q (one_qubit name.now q) }
+// The item of the gate of a name, if that is one.
+fn named(n: QubitCount, g: Option<Gate>) -> Result<Item, Fault>
+    ensures { result ≡ named_item n g }
 {
-    let g = names::one_qubit(name, q).ok_or(Fault::Line)?;
-    Ok(Item::Gate(names::placed(g, n)?))
-}
-
-fn two_qubit_item(n: QubitCount, name: &[u8], p: Qubit, q: Qubit) -> Result<Item, Fault>
-    ensures { result ≡ two_qubit_item n p q (two_qubits name.now p q) }
-{
-    let g = names::two_qubits(name, p, q).ok_or(Fault::Line)?;
+    let g = g.ok_or(Fault::Line)?;
     Ok(Item::Gate(names::placed(g, n)?))
 }
 
@@ -84,8 +77,8 @@ fn gate_item(n: QubitCount, name: &[u8], qubits: Args) -> Result<Item, Fault>
     ensures { result ≡ gate_item_of n name.now qubits }
 {
     match qubits {
-        Args::One(q) => one_qubit_item(n, name, q),
-        Args::Two(p, q) => two_qubit_item(n, name, p, q),
+        Args::One(q) => named(n, names::one_qubit(name, q)),
+        Args::Two(p, q) => named(n, names::two_qubits(name, p, q)),
         _ => Err(Fault::Line),
     }
 }
@@ -155,20 +148,15 @@ fn parting_after(
 
 // The lines after the first, from `start` on.
 fn check_lines(text: &[u8], start: usize, n: QubitCount) -> Result<Checked, FaultAt>
-    requires { (1 ≤ start) × (start ≤ length text.now + 1) }
     ensures { result ≡ check_lines n None 1 (lines (drop start text.now)) }
 {
-    let mut a = start;
     let mut count = 1;
     let mut parting = None;
-    // The place goes from line to line, past bytes that `split::end` has passed. (`split` would give an empty part
-    // after the last LF, which is no line, and does not say that it is the last.)
-    while a < text.len() {
-        let e = split::end(text, a, b'\n');
-        let line = count + 1;
-        parting = parting_after(read(n, &text[a..e]), parting, line)?;
-        a = e + 1;
-        count = line;
+    // (A first line without LF ends at the text's end: `start` is past it then.)
+    let rest = &text[start.min(text.len())..];
+    for part in rest.split_inclusive(|&b| b == b'\n') {
+        count += 1;
+        parting = parting_after(read(n, split::line_of(part)), parting, count)?;
     }
     match parting {
         Some(parting) => Ok(Checked { n, parting, count }),

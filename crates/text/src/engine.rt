@@ -12,7 +12,8 @@ use diagram::make::State;
 use diagram::node::Edge;
 use diagram::registers::{RegisterNumber, Registers};
 
-// A diagram and the registers that hold edges of it.
+// A diagram and the registers that hold edges of it. (`IsEngine` stands at each method, and in no invariant of the
+// type: it is not true before `start`, nor while a step is made.)
 #[derive(Drop)]
 pub struct Engine<'b, 'a> {
     pub diagram: &'b mut Diagram<'a>,

@@ -3,15 +3,14 @@
 
 ghost use Rattle.std.specs.Prelude.{◌≡◌, ◌≤◌, length, Some};
 ghost use Rattle.text.specs.Split.{fields_after};
-ghost use Rattle.text.specs.Gate.{refusal_of, one_qubit_call, two_qubit_call, gate_call_of, gate_call_fields};
-ghost use Rattle.text.specs.Names.{one_qubit, two_qubits};
+ghost use Rattle.text.specs.Gate.{refusal_of, named_call, gate_call_of, gate_call_fields};
 
 use crate::args::Args;
 use crate::call::{Call, Refusal};
 use crate::limits::{MOST_DIGITS, MOST_QUBITS};
 use crate::names::Misplaced;
 use crate::{args, call, names, number, split};
-use diagram::gate::Qubit;
+use diagram::gate::Gate;
 use diagram::registers::RegisterNumber;
 
 impl From<Misplaced> for Refusal {
@@ -25,17 +24,11 @@ impl From<Misplaced> for Refusal {
     }
 }
 
-fn one_qubit_call(d: RegisterNumber, name: &[u8], q: Qubit) -> Result<Call, Refusal>
-    ensures { result ≡ one_qubit_call d q (one_qubit name.now q) }
+// The call of the gate of a name, if that is one.
+fn named(d: RegisterNumber, g: Option<Gate>) -> Result<Call, Refusal>
+    ensures { result ≡ named_call d g }
 {
-    let g = names::one_qubit(name, q).ok_or(Refusal::Name)?;
-    Ok(Call::Gate(d, names::placed(g, MOST_QUBITS)?))
-}
-
-fn two_qubit_call(d: RegisterNumber, name: &[u8], p: Qubit, q: Qubit) -> Result<Call, Refusal>
-    ensures { result ≡ two_qubit_call d p q (two_qubits name.now p q) }
-{
-    let g = names::two_qubits(name, p, q).ok_or(Refusal::Name)?;
+    let g = g.ok_or(Refusal::Name)?;
     Ok(Call::Gate(d, names::placed(g, MOST_QUBITS)?))
 }
 
@@ -45,11 +38,11 @@ fn make(d: RegisterNumber, name: &[u8], qubits: Args) -> Result<Call, Refusal>
     match qubits {
         Args::One(q) => {
             call::check_register(d)?;
-            one_qubit_call(d, name, q)
+            named(d, names::one_qubit(name, q))
         }
         Args::Two(p, q) => {
             call::check_register(d)?;
-            two_qubit_call(d, name, p, q)
+            named(d, names::two_qubits(name, p, q))
         }
         _ => Err(Refusal::Malformed),
     }

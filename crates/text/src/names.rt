@@ -1,5 +1,5 @@
-// The gates' names, and where a gate may stand. (Gates on one qubit and on two are apart here, in `gate` and in
-// `check`: a name is looked for among those of its count. Why no `match`: words.rt.)
+// The gates' names, and where a gate may stand. (Names of gates on one qubit and on two are apart: a name is looked
+// for among those of its count. Why no `match`: words.rt.)
 ghost use Rattle.std.specs.Prelude.{◌≡◌};
 ghost use Rattle.text.specs.Names.{one_qubit, two_qubits, placed_gate};
 

@@ -2,6 +2,7 @@
 ghost use Rattle.std.specs.Prelude.{◌≡◌, ◌++◌, ◌+◌, ◌≤◌, ◌<◌, length};
 ghost use Rattle.text.specs.Print.{WriteEnsures, decimal};
 
+// (`as`: d < 10 by contract, and TryFrom would answer a Result that cannot fail.)
 fn digit_byte(d: usize) -> u8
     requires { d < 10 }
     ensures { result ≡ 48 + d }
@@ -9,7 +10,8 @@ fn digit_byte(d: usize) -> u8
     b'0' + d as u8
 }
 
-// Puts s at a place, and answers the place after it. (A struct of the output and the place would hold a lent slice, and
+// Puts s at a place, and answers the place after it. (That there is room stands at each function that puts: how much
+// differs. A struct of the output and the place would hold a lent slice, and
 // each promise would have to say that it is still the same one.)
 pub(crate) fn put_bytes(out: &mut [u8], at: usize, s: &[u8]) -> usize
     requires { at + length s.now ≤ length out.old }

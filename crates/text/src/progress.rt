@@ -11,7 +11,7 @@ use diagram::node::NodeCount;
 use diagram::registers::Registers;
 
 // "The result gives the code (0 or 9), lines answered, bytes written, the node count and the sixteen registers."
-// (The code is a number: document 01 and the C interface say 0 or 9.)
+// (The code is a number: document 01 and the C interface say 0 or 9. Registers hold node numbers: document 01, too.)
 #[derive(Clone, Copy)]
 pub struct SessionResult {
     pub code: usize,
@@ -21,7 +21,7 @@ pub struct SessionResult {
     pub registers: Registers,
 }
 
-// How far a run has come; the text is read up to `place`.
+// How far a run has come; the text is read up to `place`. (The code is a number, as in the result.)
 #[derive(Clone, Copy)]
 pub struct Progress {
     pub code: usize,

@@ -1,10 +1,11 @@
 // What a call does and answers (document 01, "Session calls"; document 02, `on` and `lows`). Its line was read, so 1,
 // 2, 4, 5 and 6 are past: "3 from the left; 7; 8".
 ghost use Rattle.std.specs.Prelude.{◌≡◌, ◌<◌, Ok};
+ghost use Rattle.diagram.specs.Diagram.{IsSound};
 ghost use Rattle.text.specs.Limits.{register_count};
 ghost use Rattle.text.specs.Call.{InRange, Ranged};
-ghost use Rattle.text.specs.Engine.{KeepsEngine, IsEngine};
-ghost use Rattle.text.specs.Respond.{OperandRead, Responds, Replies};
+ghost use Rattle.text.specs.Engine.{KeepsEngine, IsEngine, HoldsEdges};
+ghost use Rattle.text.specs.Respond.{OperandRead, ReadResponds, PureResponds, Responds, Replies};
 ghost use Rattle.text.specs.declared.call.Call.TheVariants as call;
 
 use crate::answer::Answer;
@@ -104,8 +105,8 @@ impl<'b, 'a> Engine<'b, 'a> {
     }
 
     fn at(&self, a: RegisterNumber, v: Assignment) -> Result<Answer, Refusal>
-        requires { IsEngine self.now × InRange (call.At a v) }
-        ensures { Responds self.now self.now (call.At a v) result }
+        requires { IsSound self.now.diagram.now × (HoldsEdges self.now × InRange (call.At a v)) }
+        ensures { ReadResponds self.now (call.At a v) result }
     {
         let x = self.operand(a)?;
         let w = self.diagram.value(x, v as u64);
@@ -113,8 +114,8 @@ impl<'b, 'a> Engine<'b, 'a> {
     }
 
     pub(crate) fn cmp(&self, a: RegisterNumber, b: RegisterNumber) -> Result<Answer, Refusal>
-        requires { IsEngine self.now × InRange (call.Cmp a b) }
-        ensures { Responds self.now self.now (call.Cmp a b) result }
+        requires { HoldsEdges self.now × InRange (call.Cmp a b) }
+        ensures { PureResponds self.now (call.Cmp a b) result }
     {
         let x = self.operand(a)?;
         let y = self.operand(b)?;
@@ -122,8 +123,8 @@ impl<'b, 'a> Engine<'b, 'a> {
     }
 
     fn on(&self, a: RegisterNumber) -> Result<Answer, Refusal>
-        requires { IsEngine self.now × InRange (call.On a) }
-        ensures { Responds self.now self.now (call.On a) result }
+        requires { IsSound self.now.diagram.now × (HoldsEdges self.now × InRange (call.On a)) }
+        ensures { ReadResponds self.now (call.On a) result }
     {
         let x = self.operand(a)?;
         let m = self.diagram.support(x);

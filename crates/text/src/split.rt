@@ -1,9 +1,9 @@
-// The parts of a text: where one ends.
-ghost use Rattle.std.specs.Prelude.{◌≤◌, length, MatchOption};
+// The parts of a text: where one ends. (Line and place are two parameters: the place moves on, the line does not.)
+ghost use Rattle.std.specs.Prelude.{◌≡◌, ◌≤◌, length, MatchOption};
 ghost use Rattle.text.specs.Text.{LF};
-ghost use Rattle.text.specs.Split.{Ends, FieldAfter, Without, FirstLine};
+ghost use Rattle.text.specs.Split.{Ends, FieldAfter, line_of, Without, FirstLine};
 
-// The place of the first byte b from a on, or the length.
+// The place of the first byte b from a on, or the length. (No Option: where there is no b, the last part ends there.)
 pub fn end(s: &[u8], a: usize, b: u8) -> usize
     requires { a ≤ length s.now }
     ensures { Ends b s.now a result }
@@ -23,6 +23,13 @@ pub(crate) fn field_after(line: &[u8], e: usize) -> Option<(&[u8], usize)>
     let a = e + 1;
     let f = end(line, a, b'\t');
     Some((&line[a..f], f))
+}
+
+// A line without its LF, which the last line of a text may lack.
+pub(crate) fn line_of(part: &[u8]) -> &[u8]
+    ensures { result.now ≡ line_of part.now }
+{
+    part.strip_suffix(b"\n".as_slice()).unwrap_or(part)
 }
 
 // The first line without its LF, and what comes after it, if there is an LF.

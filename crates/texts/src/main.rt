@@ -23,7 +23,9 @@ fn main(rt: HostRuntime) -> io::Result<()> {
     let stdout = rt.stdout();
     let mut input = BufReader::new(rt.alloc(), rt.stdin())?;
     let mut text = Vec::new(rt.alloc());
-    // A proved loop has to end, and nothing says that an input does: no run uses this count up.
+    // A proved loop has to end, and nothing says that an input does: no run uses this count up. (`texts`, `script` and
+    // `cases` have this loop each: one for the three would take a closure that borrows what each works with, and be no
+    // plainer.)
     for _ in 0..u64::MAX {
         match stdin::read_text(&mut input, 0, &mut text) {
             // What cannot be written is left out.

@@ -28,9 +28,10 @@ pub record ReadStep (a b : Buffer) : Type 0 where
   pub more : ℕ
   pub read : ReadEnsures a b (Ok (suc more))
 
--- read after read into an empty buffer, each of which brought bytes
-pub record ReadsMore (b : Buffer) : Type 0 where
+-- read after read into this buffer, emptied: its text as it was, and no byte of it counted; each brought bytes
+pub record ReadsMore (a b : Buffer) : Type 0 where
   pub start : Buffer
+  pub text : start.text ≡ a.text
   pub empty : start.len ≡ 0
   pub steps : Star ReadStep start b
 
@@ -39,10 +40,10 @@ abbrev pub LastRead : Buffer → Buffer → Result ⊤ ReadFailed → Type 0
 LastRead a b (Ok _) = ReadEnsures a b (Ok 0)
 LastRead a b (Err e) = ReadEnsures a b (Err e)
 
--- Read after read, to the last one.
-pub record Reads (b : Buffer) (r : Result ⊤ ReadFailed) : Type 0 where
+-- Read after read into this buffer, emptied, to the last one.
+pub record Reads (a b : Buffer) (r : Result ⊤ ReadFailed) : Type 0 where
   pub before : Buffer
-  pub more : ReadsMore before
+  pub more : ReadsMore a before
   pub last : LastRead before b r
 
 -- used by the proofs alone

@@ -46,27 +46,28 @@ feed_step part {i = i} l f g = record {
 
 -- the loop over the input
 
-pub reads_start : {a : Buffer} → a.len ≡ 0 → ReadsMore a
-reads_start {a} e = record { start = a; empty = e; steps = none }
+pub reads_start : {a b : Buffer} → b.text ≡ a.text → b.len ≡ 0 → ReadsMore a b
+reads_start {b = b} p e = record { start = b; text = p; empty = e; steps = none }
 
-pub reads_more : {a b : Buffer} (n : ℕ) → n ≢ 0 → ReadsMore a → ReadEnsures a b (Ok n) → ReadsMore b
+pub reads_more : {o a b : Buffer} (n : ℕ) → n ≢ 0 → ReadsMore o a → ReadEnsures a b (Ok n) → ReadsMore o b
 reads_more zero h v w = absurd (h refl)
 reads_more (suc n) h v w = record {
   start = v.start;
+  text = v.text;
   empty = v.empty;
   steps = more v.steps (record { more = n; read = w });
 }
 
-pub reads_end : {a b : Buffer} {n : ℕ} → n ≡ 0 → ReadsMore a → ReadEnsures a b (Ok n) → Reads b (Ok tt)
-reads_end {a} {b} e v w = record { before = a; more = v; last = subst (λ k. ReadEnsures a b (Ok k)) e w }
+pub reads_end : {o a b : Buffer} {n : ℕ} → n ≡ 0 → ReadsMore o a → ReadEnsures a b (Ok n) → Reads o b (Ok tt)
+reads_end {a = a} {b} e v w = record { before = a; more = v; last = subst (λ k. ReadEnsures a b (Ok k)) e w }
 
-pub reads_failed : {a b : Buffer} {e : ReadFailed} (r : Result ⊤ ReadFailed) → IsErr r → ReadsMore a
-    → ReadEnsures a b (Err e) → Reads b r
+pub reads_failed : {o a b : Buffer} {e : ReadFailed} (r : Result ⊤ ReadFailed) → IsErr r → ReadsMore o a
+    → ReadEnsures a b (Err e) → Reads o b r
 reads_failed (Ok u) i v w = absurd (false≢true i)
-reads_failed {a} (Err e) i v w = record { before = a; more = v; last = w }
+reads_failed {a = a} (Err e) i v w = record { before = a; more = v; last = w }
 
-pub reads_none : {a : Buffer} {e : ReadFailed} → ReadsMore a → Reads a (Err e)
-reads_none {a} v =
+pub reads_none : {o a : Buffer} {e : ReadFailed} → ReadsMore o a → Reads o a (Err e)
+reads_none {a = a} v =
     record { before = a; more = v; last = record { part = []; possible = omega arith; feeds = feed_none } }
 
 -- what the buffer holds after any number of reads
@@ -84,5 +85,5 @@ held_last : {a b : Buffer} (r : Result ⊤ ReadFailed) → Held a → LastRead a
 held_last (Ok u) v w = held_read v w
 held_last (Err e) v w = held_read v w
 
-pub reads_held : {a : Buffer} {r : Result ⊤ ReadFailed} → Reads a r → Held a
+pub reads_held : {o a : Buffer} {r : Result ⊤ ReadFailed} → Reads o a r → Held a
 reads_held {r = r} w = held_last r (held_steps w.more.empty w.more.steps) w.last

@@ -9,11 +9,12 @@ use Rattle.verdict.specs.declared.buffer.Buffer.{Buffer}
 use Rattle.verdict.specs.declared.outcome.Unjudged.{Unjudged}
 use Rattle.verdict.specs.declared.outcome.Unjudged.TheVariants.{ReadFailed as Unread}
 
--- Some bytes came, read after read, the buffer holds as many of them as fit, in order, and this is the answer to them;
--- where the last read has not said that the input has ended, nothing is answered, and else reading has not failed.
-pub record RunEnsures (a : Buffer) (s : List ℕ) (o o' : Bytes) (r : Result VerdictResult Unjudged) : Type 0 where
+-- Some bytes came, read after read into the buffer that was lent, emptied; it holds as many of them as fit, in order,
+-- and this is the answer to them; where the last read has not said that the input has ended, nothing is answered, and
+-- else reading has not failed.
+pub record RunEnsures (lent a : Buffer) (s : List ℕ) (o o' : Bytes) (r : Result VerdictResult Unjudged) : Type 0 where
   pub received : Result ⊤ ReadFailed
-  pub reads : Reads a received
+  pub reads : Reads lent a received
   pub cut : (e : ReadFailed) → received ≡ Err e → r ≡ Err Unread
   pub whole : (u : ⊤) → received ≡ Ok u → r ≢ Err Unread
   pub came : Bytes

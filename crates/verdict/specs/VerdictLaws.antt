@@ -13,9 +13,9 @@ use Rattle.verdict.specs.declared.buffer.Buffer.{Buffer}
 use Rattle.verdict.specs.declared.outcome.Unjudged.{Unjudged}
 use Rattle.verdict.specs.declared.outcome.Unjudged.TheVariants.{ReadFailed as Unread}
 
-pub run_judged : {a : Buffer} {s : List ℕ} {o o' : Bytes} {u : ⊤} {r : Result VerdictResult Unjudged}
-    → Reads a (Ok u) → JudgeEnsures a s o o' r
-    → RunEnsures a s o o' r
+pub run_judged : {lent a : Buffer} {s : List ℕ} {o o' : Bytes} {u : ⊤} {r : Result VerdictResult Unjudged}
+    → Reads lent a (Ok u) → JudgeEnsures a s o o' r
+    → RunEnsures lent a s o o' r
 run_judged {u = u} w j =
     let v = reads_held w in
     record {
@@ -28,9 +28,9 @@ run_judged {u = u} w j =
       answer = j.on v.came v.holds;
     }
 
-pub run_cut : {a : Buffer} {s : List ℕ} {o : Bytes} {e : ReadFailed} {r : Result VerdictResult Unjudged}
-    → r ≡ Err Unread → Reads a (Err e)
-    → RunEnsures a s o o r
+pub run_cut : {lent a : Buffer} {s : List ℕ} {o : Bytes} {e : ReadFailed} {r : Result VerdictResult Unjudged}
+    → r ≡ Err Unread → Reads lent a (Err e)
+    → RunEnsures lent a s o o r
 run_cut {e = e} p w =
     let v = reads_held w in
     rw p (record {
@@ -43,7 +43,8 @@ run_cut {e = e} p w =
       answer = refl;
     })
 
-pub run_within : {a : Buffer} {s : List ℕ} {o o' : Bytes} (r : Result VerdictResult Unjudged) → RunEnsures a s o o' r
+pub run_within : {lent a : Buffer} {s : List ℕ} {o o' : Bytes} (r : Result VerdictResult Unjudged)
+    → RunEnsures lent a s o o' r
     → IfOk r (λ v. v.bytes ≤ length o')
 run_within (Ok v) w = verdict_within w.answer.1
 run_within (Err e) w = tt

@@ -6,11 +6,12 @@ use crate::buffer::{Buffer, TEXT};
 use std::io::Stdin;
 use stdin::ReadFailed;
 
-// How many bytes are read at once.
+// How many bytes are read at once. (An array: the memory is fixed, with no heap.)
 const PART: usize = 4096;
 
 impl Buffer {
-    // A byte that does not fit is counted once and not kept.
+    // A byte that does not fit is counted once and not kept. (One more than fit is a number for "more came": the count
+    // says both what came and whether it fits.)
     fn put(&mut self, b: u8)
         ensures { FeedEnsures (b ∷ []) self.old self.new }
     {
@@ -44,10 +45,11 @@ impl Buffer {
     // Reads anew, to the input's end. A proved loop has to end, and nothing says that an input does: no run uses this
     // count up.
     //
-    // The program `session` has this loop too, over lines and answers, which may fail. One for both is no plainer:
-    // `Session::receive` says why.
+    // The program `session` has this loop too, over lines and answers, which may fail. One for both is no plainer: it
+    // would take a trait with an error type, what may come, a relation for a part and a law that another may come, and
+    // in `session` a struct over session and output.
     pub fn receive(&mut self, stdin: Stdin) -> Result<(), ReadFailed>
-        ensures { Reads self.new result }
+        ensures { Reads self.old self.new result }
     {
         self.len = 0;
         for _ in 0..u64::MAX {

@@ -18,7 +18,7 @@ use std::io::{Print, Stderr, Stdin, Stdout};
 use text::limits::VERDICT_ROOM;
 use text::ruling::VerdictResult;
 
-// 2048 nodes of 16 bytes.
+// 2048 nodes of 16 bytes. (Each program says for itself what memory it has.)
 const STORE: usize = 32768;
 
 // 4096 remembered results of four words.
@@ -32,7 +32,7 @@ fn run(
     out: &mut [u8],
 ) -> Result<VerdictResult, Unjudged>
     requires { capacity store.old ≡ 2048 }
-    ensures { RunEnsures buffer.new store.old
+    ensures { RunEnsures buffer.old buffer.new store.old
         out.old out.new result }
 {
     buffer.receive(stdin)?;

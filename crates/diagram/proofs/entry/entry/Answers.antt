@@ -36,5 +36,5 @@ returns-in-Sw c = search (rules, entry_pair, sw_table)
 pub returns-in_default : goal.returns-in_default
 returns-in_default c =
     let left = c.in_default in
-    entry_single c.args.g c.args.v (alone c.args.g left.not-Cx left.not-Cz left.not-Sw) c.first_qubit-a.ensures
+    entry_single c.args.g c.args.v (alone c.args.g left.not-Cx left.not-Cz left.not-Sw) c.qubits-a.ensures.first
     c.matrix.ensures c.single.ensures

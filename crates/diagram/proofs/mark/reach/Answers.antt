@@ -4,7 +4,8 @@ use Rattle.diagram.proofs.mark.reach.Goals as goal
 
 pub spread-requires : goal.spread-requires
 spread-requires c =
-    let rooted = c.roots.ensures.on _ (exactly_none (cleared_marks c.clear.ensures)) in (search rules, rw rooted.kept c.requires.1.0)
+    let rooted = c.roots.ensures.on _ (exactly_none (cleared_marks c.clear.ensures)) in
+    (search rules, rw rooted.kept c.requires.1.0)
 
 pub returns : goal.returns
 returns c =

@@ -14,5 +14,5 @@ returns-in_err-map_err c =
 pub returns : goal.returns
 returns c =
     let accepted : is_err c.run.result ≡ false = search rules in
-    second_ensures c.run.ensures.runs c.run.ensures.text.engine.loans.long accepted c.cmp.ensures
-    c.comparison_of.ensures
+    second_ensures c.run.ensures.runs c.run.ensures.text.engine.loans.long accepted
+    ((c.cmp.ensures.on _).on _ c.run.ensures.runs.invariant) c.comparison_of.ensures

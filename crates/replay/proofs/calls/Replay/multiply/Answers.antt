@@ -1,3 +1,4 @@
+-- As `lower`, goal by goal, by the laws of its own call.
 use borrow.Author.Rules.{rules}
 use Rattle.std.proofs.Common.{sym, subst}
 use Rattle.diagram.specs.Tensor.{bits}

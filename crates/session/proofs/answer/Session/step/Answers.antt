@@ -3,17 +3,18 @@ use Rattle.std.proofs.Common.{rules}
 use Rattle.session.specs.FeedLaws.{feeds_end, feeds_byte, feeds_lost}
 use Rattle.session.proofs.answer.Session.step.Goals as goal
 
-pub returns-in_err-answer-clause-feeds : goal.returns-in_err-answer-clause-feeds
-returns-in_err-answer-clause-feeds g c =
+pub returns-in_err-answer-clause-takes : goal.returns-in_err-answer-clause-takes
+returns-in_err-answer-clause-takes g c =
     let p = err_from_is_err_and c.from_residual.result c.from_residual.ensures.1 in
     let a = c.in_err-answer.ensures in
-    rw p.1 (feeds_lost _ (search rules) a.loans.engine.loans.long a.answers (search rules))
+    rw p.1 (feeds_lost _ (search rules) a.loans.room a.loans.engine.loans.long a.squeeze c.requires a.answers
+    (search rules))
 
-pub returns-then-b-eq10-clause-feeds : goal.returns-then-b-eq10-clause-feeds
-returns-then-b-eq10-clause-feeds g c =
+pub returns-then-b-eq10-clause-takes : goal.returns-then-b-eq10-clause-takes
+returns-then-b-eq10-clause-takes g c =
     let a = c.in_ok-answer.ensures in
     feeds_end (search rules) a.loans.room a.loans.engine.loans.long c.requires a.answers (search rules)
     c.none-self.ensures
 
-pub returns-clause-feeds : goal.returns-clause-feeds
-returns-clause-feeds g c = search (rules, feeds_byte)
+pub returns-clause-takes : goal.returns-clause-takes
+returns-clause-takes g c = search (rules, feeds_byte)

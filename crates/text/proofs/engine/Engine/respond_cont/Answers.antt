@@ -1,3 +1,4 @@
+-- As `respond_add`, goal by goal, by the laws of its own call.
 use Rattle.std.specs.Prelude.{◌≡◌, Err}
 use borrow.Author.Rules.{rules}
 use Rattle.text.specs.RespondLaws.{empty_cont, empty_cont_2, operand_valid, responds_cont}

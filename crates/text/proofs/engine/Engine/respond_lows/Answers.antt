@@ -1,3 +1,4 @@
+-- As `respond_low`, goal by goal, by the laws of its own call.
 use Rattle.std.specs.Prelude.{◌≡◌, Err}
 use borrow.Author.Rules.{rules}
 use Rattle.text.specs.RespondLaws.{empty_lows, operand_valid, responds_lows}

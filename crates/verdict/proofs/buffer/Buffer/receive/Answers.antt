@@ -3,7 +3,7 @@ use Rattle.verdict.specs.InputLaws.{reads_start, reads_more, reads_end, reads_fa
 use Rattle.verdict.proofs.buffer.Buffer.receive.Goals as goal
 
 pub loop-init : goal.loop-init
-loop-init c = reads_start refl
+loop-init c = reads_start refl refl
 
 pub returns-in_err-read : goal.returns-in_err-read
 returns-in_err-read c = reads_failed _ c.from_residual.ensures.0 c.loop.invariant c.in_err-read.ensures
