@@ -1,55 +1,25 @@
 -- Bytes taken in one after the other, and the input's last line.
-use Rattle.std.specs.Prelude.{◌≡◌, refl, ◌≢◌, Bool, true, false, cond, List, [], ◌∷◌, ◌++◌, ℕ, ◌+◌, ◌≤◌, ◌<◌, eqb}
+use Rattle.std.specs.Prelude.{◌≡◌, refl, ◌≢◌, Bool, true, false, List, [], ◌∷◌, ◌++◌, ℕ, ◌+◌, ◌≤◌, ◌<◌}
 use Rattle.std.specs.Prelude.{length, take, drop, get_or, ⊤, Result, Ok, Err}
-use Rattle.std.proofs.Common.{◌∙◌, append-nil, append_assoc, add-one, arith, ne_eqb, le-leb, length-append}
+use Rattle.std.proofs.Common.{◌∙◌, append-nil, append_assoc, add-one, arith, le-leb, length-append}
 use Rattle.std.proofs.Common.{take-suc, length-take-le, take-append-drop}
 use Rattle.diagram.specs.Node.{capacity}
-use Rattle.text.specs.Text.{Bytes, LF, tab, lines, parts, onto}
+use Rattle.text.specs.Text.{Bytes, LF, lines}
 use Rattle.text.specs.Answer.{printed}
 use Rattle.text.specs.Session.{at_most, empty_run, with_answer, run}
-use Rattle.text.specs.Squeeze.{squeezed_from, squeezed, NoneEnsures, PushEnsures}
+use Rattle.text.specs.Squeeze.{squeezed, NoneEnsures, PushEnsures}
 use Rattle.text.specs.Engine.{Contents, tally_of, EngineStartEnsures}
 use Rattle.text.specs.SessionLaws.{run_append}
 use Rattle.text.specs.declared.squeeze.Squeeze.{Squeeze}
-use Rattle.session.specs.Answer.{Memory, memory, SessionState, NoLf, none, byte, reply_to, AnswerEnsures}
+use Rattle.session.specs.Answer.{Memory, memory, SessionState, none, reply_to, AnswerEnsures}
 use Rattle.session.specs.AnswerLaws.{line_first}
+use Rattle.session.specs.FeedLinesLaws.{no_LF_more, line_kept, line_none}
 use Rattle.session.specs.Feed.{AfterLines, AfterLinesBefore, FeedRequires, FeedInvariant}
 use Rattle.session.specs.Feed.{TakesIn, NothingFed, FeedEnsures, LastEnsures}
 use Rattle.session.specs.Output.{all_written, any_lost, PutEnsures}
 use Rattle.session.specs.OutputLaws.{written_open, put_written, put_lost, put_each}
 use Rattle.session.specs.declared.output.WriteFailed.{WriteFailed}
 use Rattle.text.specs.Limits.{answer_room}
-
--- lines
-
-no_LF_more : {s : Bytes} {b : ℕ} → NoLf s → b ≢ LF → NoLf (s ++ (b ∷ []))
-no_LF_more none h = byte h none
-no_LF_more (byte g u) h = byte g (no_LF_more u h)
-
--- bytes without an LF are one line
-line_last : {x : ℕ} {s : Bytes} → NoLf (x ∷ s) → lines (x ∷ s) ≡ (x ∷ s) ∷ []
-unfolding lines parts onto
-line_last (byte {x} h none) = rw (ne_eqb x LF h)
-line_last (byte {x} h (byte g u)) = rw (ne_eqb x LF h, line_last (byte g u))
-
--- of a line that has a byte, one is kept
-kept_some : (x : ℕ) (s : Bytes) → 0 < length (squeezed (x ∷ s))
-unfolding squeezed squeezed_from
-kept_some x s = go (eqb x tab)
-  where
-    go : (b : Bool) → 0 < length (cond b (x ∷ squeezed_from 1 0 s) (x ∷ squeezed_from 0 1 s))
-    go true = omega arith
-    go false = omega arith
-
-line_kept : {s : Bytes} → NoLf s → 0 < length (squeezed s) → lines s ≡ s ∷ []
-unfolding squeezed squeezed_from
-line_kept none h = absurd (omega arith)
-line_kept (byte g u) h = line_last (byte g u)
-
-line_none : (s : Bytes) → length (squeezed s) ≤ 0 → lines s ≡ []
-unfolding lines parts
-line_none [] h = refl
-line_none (x ∷ s) h = absurd (omega (arith, kept_some x s))
 
 -- lines that were run
 

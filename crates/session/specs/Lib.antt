@@ -9,6 +9,7 @@ pub mod Session
 -- laws of them
 pub mod AnswerLaws
 pub mod OutputLaws
+pub mod FeedLinesLaws
 pub mod FeedLaws
 pub mod InputLaws
 pub mod OutcomeLaws

@@ -130,17 +130,19 @@ abbrev pub Settles : Engine → Engine → State → ℕ → Result Edge steps.F
 Settles e e' st d m a = SettleEnsures e.diagram.now.cache.now e.diagram.now.store.now e'.diagram.now.cache.now
     e'.diagram.now.store.now (before_step e st) e.diagram.now.state d m (reply a e')
 
--- what a closure answers that makes a step of a diagram
+-- the contract of a closure that makes a step of a diagram
 abbrev pub Makes : Type 0 → Type 1
 Makes F = Once F (MutBor Diagram × Unit {0}) (Result Edge steps.Full × (MutBor Diagram × Unit {0}))
 
--- It may make its step of the engine's diagram; over the same store and cache, and what did not fit can be rolled back.
+-- The closure may be called with the engine's diagram. It keeps store and cache, and where its step does not fit, the
+-- diagram can be rolled back.
 pub record MaySet {F : Type 0} (g : Makes F) (step : F) (e : Engine) : Type 0 where
   pub may : FnOnceTakesAtMut g step e.diagram.now
   pub ends : (m : Result Edge steps.Full) (d' : Diagram) → FnOnceReturnsAtMut g step e.diagram.now m d'
       → KeepsLoans e.diagram.now d' × SettleRequires d'.cache.now d'.store.now e.diagram.now.state m
 
--- It has made the step m and left the diagram so, and register d was set to that, or the call refused.
+-- The closure was called: it answered `made` and left the diagram `left`. Then register d was set to that step's edge,
+-- or the call was refused.
 pub record SetsBy {F : Type 0} (g : Makes F) (step : F) (e e' : Engine) (d : ℕ) (a : Result Answer Refusal)
     : Type 0 where
   pub made : Result Edge steps.Full

@@ -39,6 +39,7 @@ pub mod GrowSession
 pub mod GateMatrix
 -- laws of texts, calls and answers
 pub mod SplitLaws
+pub mod SplitLinesLaws
 pub mod NumberLaws
 pub mod ArgsLaws
 pub mod CallLaws

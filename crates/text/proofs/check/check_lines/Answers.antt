@@ -3,7 +3,7 @@ use Rattle.std.specs.Prelude.{◌≡◌, ◌<◌, length, Err}
 use Rattle.std.proofs.Common.{rules, ◌∙◌}
 use native.Mathlib.Omega.{arith}
 use Rattle.text.specs.Check.{checked_at_end}
-use Rattle.text.specs.SplitLaws.{computes_lf, lines_inclusive}
+use Rattle.text.specs.SplitLinesLaws.{computes_lf, lines_inclusive}
 use Rattle.text.specs.CheckTextLaws.{check_loop_start, check_loop_next, check_loop_fault, check_loop_end}
 use Rattle.text.proofs.check.check_lines.Goals as goal
 

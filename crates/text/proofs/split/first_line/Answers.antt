@@ -1,6 +1,6 @@
 use borrow.Author.Rules.{rules}
 use native.Mathlib.Omega.{arith}
-use Rattle.text.specs.SplitLaws.{no_line, first_line_parted}
+use Rattle.text.specs.SplitLinesLaws.{no_line, first_line_parted}
 use Rattle.text.proofs.split.first_line.Goals as goal
 
 pub returns-then-e-text : goal.returns-then-e-text

@@ -1,4 +1,4 @@
-use Rattle.text.specs.SplitLaws.{line_stripped}
+use Rattle.text.specs.SplitLinesLaws.{line_stripped}
 use Rattle.text.proofs.split.line_of.Goals as goal
 
 pub returns : goal.returns
