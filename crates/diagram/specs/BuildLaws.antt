@@ -1,9 +1,10 @@
 -- Laws of building a gate: a tensor from its parts at an index (low, then high, then the join), and the indices that a
 -- gate uses.
 use Rattle.std.specs.Prelude.{◌≡◌, refl, List, ◌≢◌, Bool, true, false, ℕ, suc, ◌<◌, zero, ◌+◌, ◌-◌, ◌*◌, ◌%◌, ◌^◌, ◌≤◌}
-use Rattle.std.specs.Prelude.{Result, Err}
+use Rattle.std.specs.Prelude.{Result, Err, min, max}
 use Rattle.std.proofs.Common.{ap, sym, ◌∙◌, ap₂, subst, arith, add-one}
 use Rattle.std.proofs.Math.Path.{fun_ext}
+use Rattle.std.proofs.Math.Decide.{dec_lt}
 use Rattle.std.proofs.Math.Nat.{pow-le-pow_right}
 use Rattle.field.specs.Weight.{modulus, to_weight, 1w}
 use Rattle.field.specs.Field.{Represents}
@@ -140,6 +141,20 @@ none_used_swapped p q o = none_used p q record {
   inside = o.inside;
   others = λ j l h n. let m = o.others j l h n in (m.1, m.0);
 }
+
+-- the lower qubit first
+pub none_used_ordered : {g : Gate} {a b x y k r : ℕ} → a ≡ first_qubit g → b ≡ second_qubit g
+    → x ≡ min a b → y ≡ max a b → NoneOwned x y k r → NoneUsed g k r
+none_used_ordered {a = a} {b = b} {x = x} {y = y} p q u v o = elim (dec_lt a b) [
+  | yes h ↦
+      let low : x ≡ a = omega (arith, h, u) in
+      let high : y ≡ b = omega (arith, h, v) in
+      none_used p q (rw (low, high) at o)
+  | no h ↦
+      let low : x ≡ b = omega (arith, h, u) in
+      let high : y ≡ a = omega (arith, h, v) in
+      none_used_swapped p q (rw (low, high) at o)
+]
 
 module _ {k v : ℕ} (p : BitsBelow k v) (index : k ≢ index_count) where
   power : 2 ^ k ≤ 2 ^ 23

@@ -1,5 +1,5 @@
 -- Laws of fields: what a field is after a field was set.
-use Rattle.std.specs.Prelude.{◌≡◌, refl, ◌≢◌, List, ℕ, ◌+◌, ◌*◌, ◌/◌, ◌%◌, ◌≤◌, ◌<◌, length, get_or, set}
+use Rattle.std.specs.Prelude.{◌≡◌, ◌≢◌, List, ℕ, ◌+◌, ◌*◌, ◌/◌, ◌%◌, ◌≤◌, ◌<◌, length, get_or, set}
 use Rattle.std.proofs.Common.{ap, ap₂, ◌∙◌, arith, length-set, get_or-set_same, get_or-set_other}
 use Rattle.std.specs.Int.{to_le_bytes, w16}
 use Rattle.std.proofs.Math.Path.{fun_ext}
@@ -52,10 +52,6 @@ put_field_beside s f i v g hf hg ne =
     ])
 
 -- a field of records set to 0, one after the other
-
-pub cleared_none : (s : List ℕ) (f : ℕ) → Cleared s s f 0
-cleared_none s f =
-    record { long = refl; others = λ g p d. refl; none = λ i h. absurd (omega arith); after = λ i h. refl }
 
 pub cleared_more : {s s' s₁ : List ℕ} {f i n : ℕ} → f < 8 → i < n → 16 * n ≤ length s → Cleared s s' f i
     → s₁ ≡ put_field s' f i 0 → Cleared s s₁ f (i + 1)

@@ -32,6 +32,7 @@ pub mod Diagram
 pub mod Edge
 pub mod Value
 pub mod Restore
+pub mod Attempt
 pub mod Entry
 pub mod Build
 pub mod Unit
@@ -104,6 +105,7 @@ pub mod JoinLaws
 pub mod EdgeLaws
 pub mod ValueLaws
 pub mod RestoreLaws
+pub mod AttemptLaws
 -- Laws of gates and `unit` in the store
 pub mod EntryLaws
 pub mod BuildLaws

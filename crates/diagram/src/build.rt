@@ -48,11 +48,7 @@ fn next_used(g: Gate, k: Index) -> Index
     ensures { NoneUsed g k result }
 {
     let (a, b) = g.qubits();
-    if a < b {
-        owned(a, b, k)
-    } else {
-        owned(b, a, k)
-    }
+    owned(a.min(b), a.max(b), k)
 }
 
 impl<'a> Diagram<'a> {

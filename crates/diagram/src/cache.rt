@@ -18,7 +18,7 @@ pub enum Op {
 }
 
 impl Op {
-    // What an entry's words say for it.
+    // What an entry's words say for it. (`as`: an enum's number has no From.)
     fn code(self) -> u64
         ensures { (result ≡ code_of self) × (result < 3) }
     {
@@ -26,7 +26,8 @@ impl Op {
     }
 }
 
-// (`KeyFits` stands in five clauses, and in no ghost field: it would be proved where a key is made, as it is now.)
+// (`KeyFits` stands in five clauses, and in no ghost field: a file with one may not name definitions about its struct,
+// so the key would stand in a file apart from its methods.)
 //
 // Everything that a result depends on: the operation, its two nodes (lowering has one, twice), and for sum the ratio of
 // the weights, for contraction the set S, for lowering the set that goes down.
@@ -62,7 +63,8 @@ impl Key {
     }
 }
 
-// The result that the cache has for the key, of this epoch.
+// The result that the cache has for the key, of this epoch. (Cache and epoch are two parameters: the epoch is part of
+// the diagram's `State`, which `rollback` takes as it was.)
 pub(crate) fn lookup(cache: &[u64], epoch: Epoch, key: Key) -> Option<Edge>
     requires { KeyFits key }
     ensures { LookupEnsures cache.now epoch key result }

@@ -13,27 +13,17 @@ use crate::node::NodeCount;
 use crate::registers::Registers;
 use crate::{compact, mark};
 
-#[derive(Clone, Copy)]
-struct SweepResult {
-    count: NodeCount,
-    registers: Registers,
-}
-
-// Moves the reached nodes down; the answer is how many they are, and the registers with their nodes' new numbers. (What
-// works on a store alone here, in `mark`, in `compact` and in `insert`: no state is true of it meanwhile.)
-fn sweep(store: &mut [u8], count: NodeCount, registers: Registers) -> SweepResult
+// Moves the reached nodes down, and answers how many they are; the registers get their nodes' new numbers. (What works
+// on a store alone here, in `mark`, in `compact` and in `insert`: no state is true of it meanwhile.)
+fn sweep(store: &mut [u8], count: NodeCount, registers: &mut Registers) -> NodeCount
     requires { HoldsNodes store.old count × ((count < 65536) ×
-        (ChildrenBefore (node_at store.old) count × RegistersValid count registers.all)) }
-    ensures { SweepEnsures count registers.all store.old store.new result.count
-        result.registers.all }
+        (ChildrenBefore (node_at store.old) count × RegistersValid count registers.old.all)) }
+    ensures { SweepEnsures count registers.old.all store.old store.new result registers.new.all }
 {
-    mark::reach(store, count, registers);
+    mark::reach(store, count, *registers);
     let kept = compact::compact(store, count);
-    let registers = compact::renumber(store, count, registers);
-    SweepResult {
-        count: kept,
-        registers,
-    }
+    compact::renumber(store, count, registers);
+    kept
 }
 
 // Fewer buckets for far fewer nodes, so that the next table costs in proportion to the nodes; some to spare, since the
@@ -50,26 +40,24 @@ fn fewer(count: NodeCount, buckets: BucketCount) -> BucketCount
 }
 
 impl<'a> Diagram<'a> {
-    // What the registers do not reach goes; the answer is the registers with their nodes' new numbers.
-    pub fn collect(&mut self, registers: Registers) -> Registers
-        requires { CollectRequires self.old.cache.now self.old.store.now self.old.state registers.all }
+    // What the registers do not reach goes; they get their nodes' new numbers.
+    pub fn collect(&mut self, registers: &mut Registers)
+        requires { CollectRequires self.old.cache.now self.old.store.now self.old.state registers.old.all }
         ensures loans { KeepsLoans self.old self.new }
         ensures collects { CollectEnsures self.new.cache.now self.old.store.now self.new.store.now self.old.state
-            self.new.state registers.all result.all }
+            self.new.state registers.old.all registers.new.all }
     {
         let State {
             count,
             epoch,
             buckets,
         } = self.state;
-        let swept = sweep(self.store, count, registers);
-        let count = swept.count;
+        let count = sweep(self.store, count, registers);
         let buckets = fewer(count, buckets);
         self.rollback(State {
             count,
             buckets,
             epoch,
         });
-        swept.registers
     }
 }

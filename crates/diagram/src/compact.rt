@@ -84,12 +84,11 @@ fn moved(s: &[u8], r: Register) -> Register
 }
 
 // The registers with their nodes' new numbers.
-pub(crate) fn renumber(s: &[u8], count: NodeCount, mut registers: Registers) -> Registers
-    requires { HoldsNodes s.now count × RegistersValid count registers.all }
-    ensures { result.all ≡ renumber_registers (forwarded s.now) registers.all }
+pub(crate) fn renumber(s: &[u8], count: NodeCount, registers: &mut Registers)
+    requires { HoldsNodes s.now count × RegistersValid count registers.old.all }
+    ensures { registers.new.all ≡ renumber_registers (forwarded s.now) registers.old.all }
 {
     for r in registers.all.iter_mut() {
         *r = moved(s, *r);
     }
-    registers
 }

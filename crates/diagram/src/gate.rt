@@ -14,7 +14,8 @@ pub type Qubit = usize;
 
 pub type QubitCount = usize;
 
-// A gate on its qubit, or on its two: for CX the control first.
+// A gate on its qubit, or on its two: for CX the control first. (`QubitsInRange` stands in clauses, and in no type: a
+// line's gate is made before its qubits are checked.)
 #[derive(Clone, Copy)]
 pub enum Gate {
     X(Qubit),
@@ -57,7 +58,8 @@ impl Gate {
         }
     }
 
-    // A one-qubit gate: rows output (fresh), columns input (middle). Zeros for a gate on two qubits.
+    // A one-qubit gate: rows output (fresh), columns input (middle). Zeros for a gate on two qubits, as the definition
+    // has it. (No Option: who asks has seen that the gate is on one.)
     #[tactic(auto, using(crate::specs::GateLaws::as_matrix))]
     pub(crate) fn matrix(self) -> [[Weight; 2]; 2]
         ensures { result ≡ numbers (matrix_of self) }
@@ -92,7 +94,8 @@ impl Gate {
         }
     }
 
-    // The gate's qubit twice, or its two.
+    // The gate's qubit twice, or its two. (No Option for the second: who asks goes through the indices of both, and the
+    // same ones twice make no difference.)
     pub(crate) fn qubits(self) -> (Qubit, Qubit)
         ensures first { result.0 ≡ first_qubit self }
         ensures second { result.1 ≡ second_qubit self }

@@ -27,7 +27,8 @@ const ROOT: Weight = 16;
 
 const INVERSE_ROOT: Weight = 61441;
 
-// That entry of that gate; 0 where there is none. Rows are outputs (fresh), columns inputs (middle). A gate on two
+// That entry of that gate; 0 where there is none, as in document 01's matrices where a rule names no other entry. (No
+// Option: only entries that are there are asked for.) Rows are outputs (fresh), columns inputs (middle). A gate on two
 // qubits has rows and columns 00, 01, 10, 11, the first qubit's value first.
 pub(crate) fn weight(gate: GateNumber, entry: EntryNumber) -> Weight
     ensures { result ≡ weight_of gate entry }

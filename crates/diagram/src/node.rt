@@ -3,9 +3,8 @@ ghost use Rattle.std.specs.Prelude.{◌≡◌};
 ghost use Rattle.diagram.specs.Node.{capacity as capacity_of, RecordWithin, NodeFits, node_at, put_node};
 
 use crate::fields;
-
-// The field's, below its modulus.
-pub type Weight = u64;
+// (Passed on to the layers above, which do not name the field.)
+pub use field::Weight;
 
 // Nodes are numbered from 1; node 0 is the constant 1.
 pub type NodeNumber = usize;
@@ -38,7 +37,8 @@ impl Edge {
     pub const ZERO: Edge = Edge { weight: 0, node: 0 };
 }
 
-// (`NodeFits` stands in clauses, and in no ghost field: a node made of another by `..x` would have to prove it anew.)
+// (`NodeFits` stands in clauses, and in no ghost field: with one, no node is made of another by `..x`, and its
+// functions would stand in a file apart.)
 #[derive(Clone, Copy, PartialEq, Eq)]
 pub struct Node {
     pub index: Index,

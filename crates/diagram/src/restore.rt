@@ -3,11 +3,12 @@ ghost use Rattle.std.specs.Prelude.{◌≡◌, ◌≤◌, length};
 ghost use Rattle.diagram.specs.Node.{HoldsNodes};
 ghost use Rattle.diagram.specs.Insert.{TableFits};
 ghost use Rattle.diagram.specs.Restore.{RebuiltOrNoRoom, StartEnsures, RollbackRequires, RollbackEnsures};
+ghost use Rattle.diagram.specs.Attempt.{MayAttempt, Attempts};
 ghost use Rattle.diagram.specs.Diagram.{KeepsLoans};
 
-use crate::diagram::Diagram;
+use crate::diagram::{Diagram, Full};
 use crate::make::{BucketCount, State};
-use crate::node::NodeCount;
+use crate::node::{Edge, NodeCount};
 use crate::{cache, insert};
 
 // The unique table made anew, where the store has room for one. (A store alone: no state is true of it meanwhile.)
@@ -57,5 +58,21 @@ impl<'a> Diagram<'a> {
             buckets: before.buckets,
             epoch,
         };
+    }
+
+    // The step; where it does not fit, the nodes are those before it.
+    pub fn attempt<F: FnOnce(&mut Diagram<'a>) -> Result<Edge, Full>>(
+        &mut self,
+        step: F,
+    ) -> Result<Edge, Full>
+        requires { MayAttempt F.FnOnce step self.old }
+        ensures { Attempts F.FnOnce step self.old self.new result }
+    {
+        let before = self.state;
+        let made = step(self);
+        if made.is_err() {
+            self.rollback(before);
+        }
+        made
     }
 }

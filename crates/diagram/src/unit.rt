@@ -23,7 +23,8 @@ impl<'a> Diagram<'a> {
         self.join(3 * q, a, b)
     }
 
-    // The qubits from q on.
+    // The qubits from q on. (No loop over the qubits: the ones after q are joined first, and their edge is what q's
+    // joins are made of.)
     fn unit_from(&mut self, q: Qubit, n: QubitCount) -> Result<Edge, Full>
         requires { IsSound self.old × ((q ≤ n) × (n ≤ 8)) }
         ensures cache { KeepsCache self.old self.new }

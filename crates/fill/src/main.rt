@@ -39,15 +39,13 @@ fn pair(d: &mut Diagram, a: Weight, b: Weight) -> Result<Edge, Full>
     d.join(22, l, h)
 }
 
-// A pair, or the nodes as they were where it does not fit.
+// A pair, or the nodes as they were where it does not fit. (`FillInvariant` stands in clauses here and below, and in no
+// type: the diagram is that of another crate.)
 fn one(d: &mut Diagram, a: Weight, b: Weight)
     requires { FillInvariant d.old × ((a < modulus) × (b < modulus)) }
     ensures { FillInvariant d.new }
 {
-    let before = d.state;
-    if pair(d, a, b).is_err() {
-        d.rollback(before);
-    }
+    let _ = d.attempt(|d| pair(d, a, b));
 }
 
 // The pairs of a.
@@ -83,7 +81,8 @@ fn run(stdout: Stdout, store: &mut [u8], cache: &mut [u64]) {
     print(stdout, &diagram);
 }
 
-// The array as a slice; the length is known here, and nothing has to count its elements.
+// The array as a slice; the length is known here, and nothing has to count its elements. (Each program has its own:
+// what is made of it differs.)
 fn lend(stdout: Stdout, store: &mut [u8; BYTES]) {
     let mut cache = [0u64; 4];
     run(stdout, store, &mut cache);

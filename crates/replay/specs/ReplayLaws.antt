@@ -1,7 +1,8 @@
 -- A step may be settled; emptied registers.
 use Rattle.std.specs.Prelude.{◌≡◌, refl, List, ℕ, Result, Ok, Err, Some, set}
+use Rattle.std.specs.Fn.{FnOnceReturnsAtMut}
 use Rattle.std.proofs.Common.{subst}
-use Rattle.diagram.specs.Restore.{RollbackRequires}
+use Rattle.diagram.specs.Attempt.{Steps, UndoRequires, Attempts}
 use Rattle.diagram.specs.Tally.{Step}
 use Rattle.diagram.specs.Tensor.{indices}
 use Rattle.diagram.specs.Store.{Refines}
@@ -9,7 +10,7 @@ use Rattle.diagram.specs.Operation.{RefinesCached}
 use Rattle.diagram.specs.Invariant.{Invariant}
 use Rattle.diagram.specs.InvariantLaws.{invariant_clear, invariant_cached, invariant_refines}
 use Rattle.diagram.specs.InvariantLaws.{cached_rollback, refines_rollback}
-use Rattle.diagram.specs.Registers.{Register, RegistersValid}
+use Rattle.diagram.specs.Registers.{Register}
 use Rattle.diagram.specs.declared.node.Edge.{Edge}
 use Rattle.diagram.specs.declared.make.State.{State}
 use Rattle.diagram.specs.declared.diagram.Full.{Full}
@@ -46,13 +47,18 @@ pub sets_step : (f : Step indices) (m : Result Edge Full) {r : Replay} {d d' t :
 sets_step f m {r} {d} {d'} p q e k h =
     rw (← e) (settles_step d'.store.now d'.state f m p (rw q at k.same_words) (rw q at h))
 
--- what a step leaves, where it was done and where it did not fit
+-- what a step leaves, where it did not fit and where it was done
 
-pub settled : {c s : List ℕ} {t : State} (st : State) (rs : List Register) {rs' : List Register} (i : ℕ)
-    (m : Result Edge Full) {e : Edge} → MaySettleIn c s t st rs m → m ≡ Ok e → rs' ≡ set rs i (Some e)
-    → Invariant c s t rs'
-settled {c} {s} {t} st rs i m h q r = rw r (subst (MaySettleIn c s t st rs) q h i)
+pub may_undo : (r : Replay) (t : Diagram) (m : Result Edge Full) → MaySet r t m
+    → UndoRequires t.cache.now t.store.now r.diagram.state m
+may_undo r t (Ok e) h = tt
+may_undo r t (Err x) h = h.0
 
-pub settled_full : {c s : List ℕ} (t : State) {st : State} (rs : List Register) (m : Result Edge Full) {x : Full}
-    → MaySettleIn c s t st rs m → m ≡ Err x → RollbackRequires c s st × RegistersValid st.count rs
-settled_full {c} {s} t {st} rs m h q = subst (MaySettleIn c s t st rs) q h
+pub attempt_edge : {F : Type 0} {g : Steps F} {step : F} (r : Replay) {d' : Diagram} {rs' : List Register} (i : ℕ)
+    {m : Result Edge Full} {e : Edge}
+    → ((m : Result Edge Full) (t : Diagram) → FnOnceReturnsAtMut g step r.diagram m t → MaySet r t m)
+    → Attempts g step r.diagram d' m → m ≡ Ok e → rs' ≡ set r.registers.all i (Some e)
+    → Invariant d'.cache.now d'.store.now d'.state rs'
+attempt_edge {g = g} {step} r {d'} i {e = e} gives a q p =
+    let b : Attempts g step r.diagram d' (Ok e) = subst (Attempts g step r.diagram d') q a in
+    rw (p, b.ends) (gives (Ok e) b.left b.met i)

@@ -46,13 +46,9 @@ impl<'a> Replay<'a> {
             FnOnceReturnsAtMut F.FnOnce step self.old.diagram m t → MaySet self.old t m }
         ensures { IsReplay self.new }
     {
-        let before = self.diagram.state;
-        match step(&mut self.diagram) {
+        match self.diagram.attempt(step) {
             Ok(e) => self.registers.put(d, e),
-            Err(_) => {
-                println!(self.stdout; "full").unwrap_or(());
-                self.diagram.rollback(before);
-            }
+            Err(_) => println!(self.stdout; "full").unwrap_or(()),
         }
     }
 
@@ -92,7 +88,7 @@ impl<'a> Replay<'a> {
         requires { IsReplay self.old }
         ensures { IsReplay self.new }
     {
-        self.registers = self.diagram.collect(self.registers);
+        self.diagram.collect(&mut self.registers);
     }
 
     // Register 0 is the unit on n qubits.

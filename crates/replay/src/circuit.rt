@@ -10,6 +10,7 @@ ghost use Rattle.replay.specs.Replay.{IsReplay};
 use crate::calls::Replay;
 use diagram::gate::{Gate, Qubit, Shape};
 use diagram::node::Mask;
+use std::io::Stdout;
 
 impl<'a> Replay<'a> {
     // The gate, contracted over the indices of m; register 1 has held it.
@@ -22,7 +23,8 @@ impl<'a> Replay<'a> {
         self.registers.clear(1);
     }
 
-    // The fresh index of q becomes its middle. (text has this too, over edges; replay stands on diagram alone.)
+    // The fresh index of q becomes its middle. (text has this, `rename_all` and `set` too, over edges and an engine;
+    // replay stands on diagram alone.)
     fn rename(&mut self, q: Qubit)
         requires { IsReplay self.old × (q < 8) }
         ensures { IsReplay self.new }
@@ -80,7 +82,7 @@ impl<'a> Replay<'a> {
         self.apply(Gate::H(7));
     }
 
-    pub fn circuit(&mut self)
+    fn circuit(&mut self)
         requires { IsReplay self.old }
     {
         self.unit(8);
@@ -88,4 +90,9 @@ impl<'a> Replay<'a> {
         self.gates();
         self.values();
     }
+}
+
+// The circuit, from no nodes.
+pub fn run(stdout: Stdout, store: &mut [u8], cache: &mut [u64]) {
+    Replay::start(stdout, store, cache).circuit();
 }

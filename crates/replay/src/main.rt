@@ -97,5 +97,5 @@ fn main(rt: HostRuntime) {
     let mut cache = [0u64; 256];
     Replay::start(stdout, &mut store, &mut cache).collected();
     Replay::start(stdout, &mut store, &mut cache).uncollected();
-    Replay::start(stdout, &mut store, &mut cache).circuit();
+    circuit::run(stdout, &mut store, &mut cache);
 }

@@ -27,7 +27,8 @@ impl<'a> Replay<'a> {
         self.values_at(e, &[0, 2, 4, 6]);
     }
 
-    // Register i, if it is filled.
+    // Register i, if it is filled. (`MayRead` is what `IsReplay` says of what is only read; why neither is an invariant
+    // of the type: calls.rt.)
     pub fn register(&self, i: RegisterNumber)
         requires { MayRead self.now × (i < 16) }
     {

@@ -30,19 +30,24 @@ pub record SessionState : Type 0 where
   pub outcomes : List Bool
 
 -- the memory that a session works in
-abbrev pub memory_of : Session → Memory
+abbrev pub memory_of : {W : Type 0} → Session W → Memory
 memory_of t = memory t.line.now t.engine.now.diagram.now.cache.now t.engine.now.diagram.now.store.now
 
--- where a session stands, after writes that said this
-abbrev pub state_of : Session → List Bool → SessionState
-state_of t o = record { squeeze = t.squeeze; engine = contents t.engine.now; outcomes = o }
+-- where a session stands, by what its output says of its writes
+abbrev pub state_of : {W : Type 0} → (W → List Bool) → Session W → SessionState
+state_of outcomes t = record {
+  squeeze = t.squeeze;
+  engine = contents t.engine.now;
+  outcomes = outcomes t.output.now;
+}
 
--- the memory is the one that the session was lent
-pub record KeepsSession (t t' : Session) : Type 0 where
+-- the memory and the output are those that the session was lent
+pub record KeepsSession {W : Type 0} (t t' : Session W) : Type 0 where
   pub same_line : t'.line.ghost_name ≡ t.line.ghost_name
   pub room : length t'.line.now ≡ length t.line.now
   pub same_engine : t'.engine.ghost_name ≡ t.engine.ghost_name
   pub engine : KeepsEngine t.engine.now t'.engine.now
+  pub same_output : t'.output.ghost_name ≡ t.output.ghost_name
 
 -- a line in the buffer, and an engine to answer it
 pub record AnswerRequires (m : Memory) (q : Squeeze) (e : Contents) : Type 0 where

@@ -1,6 +1,6 @@
 -- What taking in bytes promises: the input's lines are run, but for the bytes after its last LF; after the first answer
 -- that could not be written none is.
-use Rattle.std.specs.Prelude.{◌≡◌, Bool, true, List, ◌++◌, ℕ, ◌+◌, ◌≤◌, ◌<◌, length, ⊤, Result, Ok, Err}
+use Rattle.std.specs.Prelude.{◌≡◌, Bool, true, false, List, ◌++◌, ℕ, ◌+◌, ◌-◌, ◌≤◌, ◌<◌, length, ⊤, Result, Ok, Err}
 use Rattle.diagram.specs.Node.{capacity}
 use Rattle.text.specs.Text.{Bytes, lines}
 use Rattle.text.specs.Session.{at_most, empty_run, run}
@@ -47,37 +47,38 @@ pub record PartialLine (seen line : Bytes) (q : Squeeze) : Type 0 where
 abbrev pub FeedRequires : Memory → SessionState → Type 0
 FeedRequires m h = AnswerRequires m h.squeeze h.engine
 
--- What holds between two bytes: a text was taken in, and n of its lines were run, each with one write, which succeeded.
--- What is behind them is the line that has not ended.
+-- What holds between two bytes: a text was taken in, n of its lines were run, and no write has failed. What is behind
+-- them is the line that has not ended.
 pub record FeedInvariant (text : Bytes) (n : ℕ) (m : Memory) (h : SessionState) : Type 0 where
   pub requires : FeedRequires m h
   pub to : AfterLinesBefore text m.store h.engine
   pub count : length to.done ≡ n
-  pub written : h.outcomes ≡ all_written n
+  pub written : any_lost h.outcomes ≡ false
   pub seen : PartialLine to.behind m.line h.squeeze
 
--- .. and after more bytes.
-pub record FeedProgress (text : Bytes) (n : ℕ) (m' : Memory) (h' : SessionState) : Type 0 where
+-- .. and after more bytes: each line that was run since has had one write, which succeeded.
+pub record FeedProgress (text : Bytes) (n : ℕ) (h : SessionState) (m' : Memory) (h' : SessionState) : Type 0 where
   pub lines : ℕ
   pub invariant : FeedInvariant text lines m' h'
   pub more : n ≤ lines
+  pub each : h'.outcomes ≡ h.outcomes ++ all_written (lines - n)
 
--- The line whose answer could not be written was run, and none after it: each line that was run has had one write, and
--- the last one's alone failed.
-pub record FeedLost (text : Bytes) (n : ℕ) (m' : Memory) (h' : SessionState) : Type 0 where
+-- The line whose answer could not be written was run, and none after it: each line that was run since has had one
+-- write, and the last one's alone failed.
+pub record FeedLost (text : Bytes) (n : ℕ) (h : SessionState) (m' : Memory) (h' : SessionState) : Type 0 where
   pub to : AfterLinesBefore text m'.store h'.engine
   pub lost : n < length to.done
-  pub written : LastLost (length to.done) h'.outcomes
+  pub each : LastLost h.outcomes (length to.done - n) h'.outcomes
 
-abbrev pub FeedOutcome : Bytes → ℕ → Memory → SessionState → Result ⊤ WriteFailed → Type 0
-FeedOutcome text n m' h' (Ok _) = FeedProgress text n m' h'
-FeedOutcome text n m' h' (Err _) = FeedLost text n m' h'
+abbrev pub FeedOutcome : Bytes → ℕ → SessionState → Memory → SessionState → Result ⊤ WriteFailed → Type 0
+FeedOutcome text n h m' h' (Ok _) = FeedProgress text n h m' h'
+FeedOutcome text n h m' h' (Err _) = FeedLost text n h m' h'
 
 -- Bytes are taken in; after a line whose answer could not be written nothing is run any more.
 pub record TakesIn (part : Bytes) (m : Memory) (h : SessionState) (m' : Memory) (h' : SessionState)
     (r : Result ⊤ WriteFailed) : Type 0 where
   pub requires : FeedRequires m' h'
-  pub on : (text : Bytes) (n : ℕ) → FeedInvariant text n m h → FeedOutcome (text ++ part) n m' h' r
+  pub on : (text : Bytes) (n : ℕ) → FeedInvariant text n m h → FeedOutcome (text ++ part) n h m' h' r
 
 -- nothing changes, and the answer says that a write has failed
 pub record NothingFed (m : Memory) (h : SessionState) (m' : Memory) (h' : SessionState)
@@ -105,5 +106,6 @@ pub record NothingLast (m : Memory) (h : SessionState) (s' : List ℕ) (e' : Con
 pub record LastEnsures (m : Memory) (h : SessionState) (s' : List ℕ) (e' : Contents) (o' : List Bool)
     (r : Result ⊤ WriteFailed) : Type 0 where
   pub all : (text : Bytes) (n : ℕ) → FeedInvariant text n m h → AfterLines (lines text) s' e'
-  pub written : (text : Bytes) (n : ℕ) → FeedInvariant text n m h → OneWriteEach r (length (lines text)) o'
+  pub each : (text : Bytes) (n : ℕ) → FeedInvariant text n m h
+      → OneWriteEach h.outcomes r (length (lines text) - n) o'
   pub stays : any_lost h.outcomes ≡ true → NothingLast m h s' e' o' r

@@ -1,7 +1,8 @@
 -- Bytes taken in one after the other, and the input's last line.
-use Rattle.std.specs.Prelude.{◌≡◌, refl, ◌≢◌, Bool, true, false, List, [], ◌∷◌, ◌++◌, ℕ, ◌+◌, ◌≤◌, ◌<◌}
-use Rattle.std.specs.Prelude.{length, take, drop, get_or, ⊤, Result, Ok, Err}
-use Rattle.std.proofs.Common.{◌∙◌, append-nil, append_assoc, add-one, arith, le-leb, length-append}
+use Rattle.std.specs.Prelude.{◌≡◌, refl, ◌≢◌, Bool, true, false, List, [], ◌∷◌, ◌++◌, ℕ, ◌+◌, ◌-◌, ◌≤◌, ◌<◌}
+use Rattle.std.specs.Prelude.{length, take, drop, get_or, is_err, ⊤, Result, Ok, Err}
+use Rattle.std.proofs.lemmas.Bool.{false≢true}
+use Rattle.std.proofs.Common.{sym, ◌∙◌, append-nil, append_assoc, add-one, arith, le-leb, length-append}
 use Rattle.std.proofs.Common.{take-suc, length-take-le, take-append-drop}
 use Rattle.diagram.specs.Node.{capacity}
 use Rattle.text.specs.Text.{Bytes, LF, lines}
@@ -16,8 +17,9 @@ use Rattle.session.specs.AnswerLaws.{line_first}
 use Rattle.session.specs.FeedLinesLaws.{no_LF_more, line_kept, line_none}
 use Rattle.session.specs.Feed.{AfterLines, AfterLinesBefore, FeedRequires, FeedInvariant}
 use Rattle.session.specs.Feed.{TakesIn, NothingFed, FeedEnsures, LastEnsures}
-use Rattle.session.specs.Output.{all_written, any_lost, PutEnsures}
-use Rattle.session.specs.OutputLaws.{written_open, put_written, put_lost, put_each}
+use Rattle.session.specs.Output.{any_lost, PutEnsures}
+use Rattle.session.specs.OutputLaws.{written_open, no_write, put_written, put_lost, put_each}
+use Rattle.session.specs.OutputLaws.{written_then, lost_then}
 use Rattle.session.specs.declared.output.WriteFailed.{WriteFailed}
 use Rattle.text.specs.Limits.{answer_room}
 
@@ -95,10 +97,11 @@ module _ {line c s : List ℕ} {h : SessionState} where
         requires = after;
         to = line_ends f k a;
         count = length-append f.to.done (f.to.behind ∷ []) ∙ (rw f.count);
-        written = put_written n f.written w;
+        written = written_open h.outcomes (n + 1 - n) f.written (put_written h.outcomes n f.written w);
         seen = record { unbroken = none; squeezing = g.start line' };
       };
       more = omega arith;
+      each = put_written h.outcomes n f.written w;
     };
   })
     where
@@ -118,7 +121,7 @@ module _ {line c s : List ℕ} {h : SessionState} where
         record {
           to = line_ends f k a;
           lost = omega (arith, l);
-          written = rw l (put_lost n f.written w);
+          each = rw l (put_lost h.outcomes n f.written w);
         };
   })
 
@@ -138,6 +141,7 @@ module _ {line c s : List ℕ} {h : SessionState} where
         seen = record { unbroken = no_LF_more f.seen.unbroken z; squeezing = p.on f.to.behind f.seen.squeezing };
       };
       more = omega arith;
+      each = no_write h.outcomes n refl;
     };
   }
     where
@@ -146,33 +150,49 @@ module _ {line c s : List ℕ} {h : SessionState} where
 
 -- the loop over a part
 
+-- what `may_run` says: a write has failed, or none has
+module _ (o : List Bool) {r : Result ⊤ WriteFailed} (p : is_err r ≡ any_lost o) where
+  was_lost : {x : WriteFailed} → r ≡ Err x → any_lost o ≡ true
+  was_lost q = rw q at (sym p)
+
+  was_open : r ≡ Ok tt → any_lost o ≡ false
+  was_open q = rw q at (sym p)
+
 -- a write has failed
-pub feed_stays : {part : Bytes} {m : Memory} {h : SessionState} {b : Bool} → b ≡ any_lost h.outcomes → b ≡ true
-    → FeedRequires m h → FeedEnsures part m h m h (Err (record {}))
-feed_stays p q k = record {
+pub feed_stays : {part : Bytes} {m : Memory} {h : SessionState} {r : Result ⊤ WriteFailed} {x : WriteFailed}
+    → is_err r ≡ any_lost h.outcomes → r ≡ Err x → FeedRequires m h
+    → FeedEnsures part m h m h (Err x)
+feed_stays {h = h} p q k = record {
   takes = record {
     requires = k;
-    on = λ text n f.
-        let e = written_open n f.written in
-        absurd (let i : ◌≡◌ {A = ℕ} 0 1 = cc in omega arith);
+    on = λ text n f. absurd (false≢true (sym f.written ∙ was_lost h.outcomes p q));
   };
   stays = λ o. record { memory = refl; state = refl; result = refl };
 }
 
-pub feed_start : {m : Memory} {h : SessionState} {b : Bool} → b ≡ any_lost h.outcomes → b ≡ false
-    → FeedRequires m h → FeedEnsures [] m h m h (Ok tt)
-feed_start p q k = record {
-  takes = record {
-    requires = k;
-    on = λ text n f. record { lines = n; invariant = rw (append-nil text) f; more = omega arith };
+pub takes_none : {m : Memory} {h : SessionState} → FeedRequires m h → TakesIn [] m h m h (Ok tt)
+takes_none {h = h} k = record {
+  requires = k;
+  on = λ text n f. record {
+    lines = n;
+    invariant = rw (append-nil text) f;
+    more = omega arith;
+    each = no_write h.outcomes n refl;
   };
-  stays = λ o. absurd (let i : ◌≡◌ {A = ℕ} 0 1 = cc in omega arith);
+}
+
+pub feed_start : {m : Memory} {h : SessionState} {r : Result ⊤ WriteFailed} → is_err r ≡ any_lost h.outcomes
+    → r ≡ Ok tt → FeedRequires m h
+    → FeedEnsures [] m h m h (Ok tt)
+feed_start {h = h} p q k = record {
+  takes = takes_none k;
+  stays = λ o. absurd (false≢true (sym (was_open h.outcomes p q) ∙ o));
 }
 
 -- bytes after bytes
-takes_then : {p q : Bytes} {m m' m'' : Memory} {h h' h'' : SessionState} (r : Result ⊤ WriteFailed)
+pub takes_then : {p q : Bytes} {m m' m'' : Memory} {h h' h'' : SessionState} (r : Result ⊤ WriteFailed)
     → TakesIn p m h m' h' (Ok tt) → TakesIn q m' h' m'' h'' r → TakesIn (p ++ q) m h m'' h'' r
-takes_then {p} {q} (Ok _) f g = record {
+takes_then {p} {q} {h = h} (Ok _) f g = record {
   requires = g.requires;
   on = λ text n v.
       let x = f.on text n v in
@@ -181,15 +201,20 @@ takes_then {p} {q} (Ok _) f g = record {
         lines = y.lines;
         invariant = rw (← append_assoc text p q) y.invariant;
         more = omega (arith, x.more, y.more);
+        each = written_then h.outcomes y.lines x.more x.each y.more y.each;
       };
 }
-takes_then {p} {q} (Err _) f g = record {
+takes_then {p} {q} {h = h} (Err _) f g = record {
   requires = g.requires;
   on = λ text n v.
       let x = f.on text n v in
       let y = g.on (text ++ p) x.lines x.invariant in
       rw (← append_assoc text p q)
-      (record { to = y.to; lost = omega (arith, x.more, y.lost); written = y.written });
+      (record {
+        to = y.to;
+        lost = omega (arith, x.more, y.lost);
+        each = lost_then h.outcomes (length y.to.done) x.more x.each y.lost y.each;
+      });
 }
 
 -- bytes after an answer that could not be written
@@ -200,7 +225,7 @@ takes_no_more {p} q f = record {
   on = λ text n v.
       let x = f.on text n v in
       rw (← append_assoc text p q)
-      (record { to = before_more q x.to; lost = x.lost; written = x.written });
+      (record { to = before_more q x.to; lost = x.lost; each = x.each });
 }
 
 -- bytes were taken in, so no write had failed before
@@ -228,26 +253,23 @@ module _ (part : Bytes) {m m' m'' : Memory} {h h' h'' : SessionState} {i : ℕ} 
 -- the input's end
 
 -- a write has failed
-pub last_stays : {m : Memory} {h : SessionState} {b : Bool} → b ≡ any_lost h.outcomes → b ≡ true
-    → LastEnsures m h m.store h.engine h.outcomes (Err (record {}))
+pub last_stays : {m : Memory} {h : SessionState} {r : Result ⊤ WriteFailed} {x : WriteFailed}
+    → is_err r ≡ any_lost h.outcomes → r ≡ Err x
+    → LastEnsures m h m.store h.engine h.outcomes (Err x)
 last_stays {h = h} p q = record {
-  all = λ text n f. written_after n f.written;
-  written = λ text n f. written_after n f.written;
+  all = λ text n f. absurd (false≢true (sym f.written ∙ was_lost h.outcomes p q));
+  each = λ text n f. absurd (false≢true (sym f.written ∙ was_lost h.outcomes p q));
   stays = λ o. record { store = refl; engine = refl; outcomes = refl; result = refl };
 }
-  where
-    written_after : {A : Type 0} (n : ℕ) → h.outcomes ≡ all_written n → A
-    written_after n w =
-        let e = written_open n w in absurd (let i : ◌≡◌ {A = ℕ} 0 1 = cc in omega arith)
 
 module _ {line c s : List ℕ} {h : SessionState} where
   -- nothing is behind the lines that were run
-  pub last_none : {b : Bool} → b ≡ any_lost h.outcomes → b ≡ false → h.squeeze.length ≤ 0
+  pub last_none : {t : Result ⊤ WriteFailed} → is_err t ≡ any_lost h.outcomes → t ≡ Ok tt → h.squeeze.length ≤ 0
       → LastEnsures (memory line c s) h s h.engine h.outcomes (Ok tt)
   last_none p q z = record {
-    stays = λ o. absurd (let i : ◌≡◌ {A = ℕ} 0 1 = cc in omega arith);
+    stays = λ o. absurd (false≢true (sym (was_open h.outcomes p q) ∙ o));
     all = λ text n f. rw (all_run text n f) f.to.ran;
-    written = λ text n f. rw (all_run text n f, f.count) f.written;
+    each = λ text n f. rw (all_run text n f, f.count) (no_write h.outcomes n refl);
   }
     where
       all_run : (text : Bytes) (n : ℕ) (f : FeedInvariant text n (memory line c s) h) → lines text ≡ f.to.done
@@ -270,18 +292,18 @@ module _ {line c s : List ℕ} {h : SessionState} where
       let o : 0 < length (squeezed f.to.behind) = rw (← v.squeezing.kept) (omega arith) in
       rw (append-nil text, append-nil f.to.behind, line_kept v.unbroken o) at (f.to.split [])
 
-  pub last_line : {line' c' s' : List ℕ} {e' : Contents} {o : List Bool} {r : Result ⊤ WriteFailed} {b : Bool}
-      → b ≡ any_lost h.outcomes → b ≡ false → 0 < h.squeeze.length
+  pub last_line : {line' c' s' : List ℕ} {e' : Contents} {o : List Bool} {r t : Result ⊤ WriteFailed}
+      → is_err t ≡ any_lost h.outcomes → t ≡ Ok tt → 0 < h.squeeze.length
       → length s' ≡ length s → FeedRequires (memory line c s) h
       → AnswerEnsures (memory line c s) h.squeeze h.engine (memory line' c' s') e' → PutEnsures h.outcomes o r
       → LastEnsures (memory line c s) h s' e' o r
   last_line {r = r} p q z n k a w = record {
-    stays = λ o. absurd (let i : ◌≡◌ {A = ℕ} 0 1 = cc in omega arith);
+    stays = λ o. absurd (false≢true (sym (was_open h.outcomes p q) ∙ o));
     all = λ text m f.
         rw (last_lines z k text m f)
         (after_more f.to.behind n f.to.ran (a.tally f.to.behind f.seen.unbroken f.seen.squeezing));
-    written = λ text m f.
+    each = λ text m f.
         let l : length (f.to.done ++ (f.to.behind ∷ [])) ≡ m + 1 =
         length-append f.to.done (f.to.behind ∷ []) ∙ (rw f.count) in
-        rw (last_lines z k text m f, l) (put_each m f.written r w);
+        rw (last_lines z k text m f, l) (put_each h.outcomes m f.written r w);
   }

@@ -1,12 +1,13 @@
--- What reading standard input promises. Which bytes a read hands over no contract can say, so they are any; what was
--- done with them is said, read after read.
-use Rattle.std.specs.Prelude.{◌≡◌, ℕ, suc, length, take, ⊤, Result, Ok, Err}
+-- What reading an input promises. Which bytes a read of standard input hands over no contract can say, so they are any;
+-- what was done with them is said, read after read, and where it is known what an input gives, that they are what it
+-- gave.
+use Rattle.std.specs.Prelude.{◌≡◌, ◌++◌, ℕ, suc, length, take, ⊤, Option, Result, Ok, Err}
+use Rattle.std.specs.Io.KnownBytes.{Consumes}
 use Rattle.stdin.specs.Stdin.{PossibleRead}
 use Rattle.stdin.specs.Star.{Star}
 use Rattle.text.specs.Text.{Bytes}
 use Rattle.session.specs.Answer.{Memory, SessionState}
-use Rattle.session.specs.Feed.{AfterLinesBefore, FeedRequires, FeedInvariant, FeedEnsures}
-use Rattle.session.specs.Output.{LastLost}
+use Rattle.session.specs.Feed.{FeedRequires, FeedInvariant, FeedProgress, FeedLost, TakesIn, FeedEnsures}
 use Rattle.session.specs.declared.output.WriteFailed.{WriteFailed}
 use Rattle.session.specs.declared.outcome.Stopped.{Stopped}
 use Rattle.session.specs.declared.outcome.Stopped.TheVariants.{ReadFailed, WriteFailed as Unwritten}
@@ -24,7 +25,7 @@ ReadEnsures m h m' h' (Ok count) = TakeEnsures count m h m' h' (Ok tt)
 ReadEnsures m h m' h' (Err Unwritten) = (count : ℕ) × TakeEnsures count m h m' h' (Err (record {}))
 ReadEnsures m h m' h' (Err ReadFailed) = (h' ≡ h) × (m' ≡ m)
 
--- what holds between two reads: some input was taken in
+-- what holds between two reads: some input was taken in, and no write has failed
 pub record InputInvariant (m : Memory) (h : SessionState) : Type 0 where
   pub text : Bytes
   pub lines : ℕ
@@ -56,24 +57,38 @@ pub record Reads (m₀ : Memory) (h₀ : SessionState) (m : Memory) (h : Session
   pub more : ReadsMore m₀ h₀ before
   pub last : LastRead before m h r
 
--- some input was taken in; where an answer could not be written, no line after its line was run, and each line that was
--- run has had one write
-abbrev pub Received : Bytes → Memory → SessionState → Result ⊤ Stopped → Type 0
-Received text m h (Ok _) = (lines : ℕ) × FeedInvariant text lines m h
-Received text m h (Err ReadFailed) = (lines : ℕ) × FeedInvariant text lines m h
-Received text m h (Err Unwritten) =
-    (a : AfterLinesBefore text m.store h.engine) × LastLost (length a.done) h.outcomes
+-- The input was taken in. Where an answer could not be written, no line after its line was run. Each line that was run
+-- since has had one write.
+abbrev pub Received : Bytes → ℕ → SessionState → Memory → SessionState → Result ⊤ Stopped → Type 0
+Received text n h₀ m h (Ok _) = FeedProgress text n h₀ m h
+Received text n h₀ m h (Err ReadFailed) = FeedProgress text n h₀ m h
+Received text n h₀ m h (Err Unwritten) = FeedLost text n h₀ m h
 
+-- Whatever was taken in before, the bytes that came were taken in after it.
 pub record ReceiveEnsures (m₀ : Memory) (h₀ : SessionState) (m : Memory) (h : SessionState)
     (r : Result ⊤ Stopped) : Type 0 where
   pub requires : FeedRequires m h
-  pub text : Bytes
-  pub received : Received text m h r
+  pub came : Bytes
+  pub received : (i : InputInvariant m₀ h₀) → Received (i.text ++ came) i.lines h₀ m h r
   pub reads : Reads m₀ h₀ m h r
+
+-- whether all answers were written, where reading may have failed
+abbrev pub writing_of : {A : Type 0} → Result A Stopped → Result ⊤ WriteFailed
+writing_of (Ok x) = Ok tt
+writing_of (Err ReadFailed) = Ok tt
+writing_of (Err Unwritten) = Err (record {})
+
+-- the bytes that were taken in came from an input of which it may be known what it gives (w before them, w' after them)
+pub record Taken (w w' : Option Bytes) (m : Memory) (h : SessionState) (m' : Memory) (h' : SessionState)
+    (r : Result ⊤ WriteFailed) : Type 0 where
+  pub came : Bytes
+  pub takes : TakesIn came m h m' h' r
+  pub consumes : Consumes w w' came
 
 -- used by the proofs alone
 
 -- between two reads
 pub record ReceiveLoop (m₀ : Memory) (h₀ : SessionState) (m : Memory) (h : SessionState) : Type 0 where
-  pub invariant : InputInvariant m h
+  pub came : Bytes
+  pub takes : TakesIn came m₀ h₀ m h (Ok tt)
   pub more : ReadsMore m₀ h₀ (record { memory = m; state = h })

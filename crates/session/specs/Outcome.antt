@@ -1,12 +1,17 @@
 -- How a session ends: what was run of its input.
-use Rattle.std.specs.Prelude.{◌≡◌, ◌≢◌, Bool, true, List, ℕ, length, ⊤, Result, Ok, Err}
+use Rattle.std.specs.Prelude.{◌≡◌, ◌≢◌, Bool, true, List, [], ℕ, ◌-◌, length, codes, ⊤, Result, Ok, Err}
 use Rattle.text.specs.Text.{Bytes, lines}
 use Rattle.text.specs.Engine.{Contents}
 use Rattle.session.specs.Answer.{Memory, SessionState}
 use Rattle.session.specs.Feed.{AfterLines, AfterFirstLines, AfterEndedLines, FeedRequires, FeedInvariant}
-use Rattle.session.specs.Output.{all_written, any_lost, LastLost}
+use Rattle.session.specs.Output.{all_written, any_lost, LastLost, OneWriteEach}
 use Rattle.session.specs.declared.outcome.Stopped.{Stopped}
 use Rattle.session.specs.declared.outcome.Stopped.TheVariants.{ReadFailed, WriteFailed as Unwritten}
+
+-- what the program says of a session that has stopped early
+abbrev pub printed : Stopped → List ℕ
+printed ReadFailed = codes "reading failed"
+printed Unwritten = codes "writing failed"
 
 -- What was run of the input, and where it has brought the engine: all its lines; where reading failed, the lines that
 -- ended; where writing failed, the first lines. Each of them has had one write, and all succeeded, but for the last
@@ -14,7 +19,7 @@ use Rattle.session.specs.declared.outcome.Stopped.TheVariants.{ReadFailed, Write
 abbrev pub AfterInput : Result ⊤ Stopped → Bytes → List ℕ → Contents → List Bool → Type 0
 AfterInput (Ok _) text s e o = AfterLines (lines text) s e × (o ≡ all_written (length (lines text)))
 AfterInput (Err ReadFailed) text s e o = (a : AfterEndedLines text s e) × (o ≡ all_written (length a.to.done))
-AfterInput (Err Unwritten) text s e o = (a : AfterFirstLines text s e) × LastLost (length a.done) o
+AfterInput (Err Unwritten) text s e o = (a : AfterFirstLines text s e) × LastLost [] (length a.done) o
 
 -- nothing more was run or written, and the engine is the one that was left
 pub record NothingRun (m : Memory) (h : SessionState) (x : Stopped) (s' : List ℕ) (e' : Contents) (o' : List Bool)
@@ -27,8 +32,11 @@ pub record NothingRun (m : Memory) (h : SessionState) (x : Stopped) (s' : List �
 -- The input has ended, and reading has not failed: every line was run, its last one's answer written or not.
 pub record CloseEnsures (m : Memory) (h : SessionState) (s' : List ℕ) (e' : Contents) (o' : List Bool)
     (r : Result ⊤ Stopped) : Type 0 where
-  pub on : (text : Bytes) (n : ℕ) → FeedInvariant text n m h → AfterInput r text s' e' o'
+  pub on : (text : Bytes) (n : ℕ) → FeedInvariant text n m h → h.outcomes ≡ all_written n
+      → AfterInput r text s' e' o'
   pub all : (text : Bytes) (n : ℕ) → FeedInvariant text n m h → AfterLines (lines text) s' e'
+  pub each : (text : Bytes) (n : ℕ) → FeedInvariant text n m h
+      → OneWriteEach h.outcomes r (length (lines text) - n) o'
   pub read : r ≢ Err ReadFailed
   pub lost : any_lost h.outcomes ≡ true → NothingRun m h Unwritten s' e' o' r
 

@@ -24,16 +24,17 @@ pub record PutEnsures (o o' : List Bool) (r : Result ⊤ WriteFailed) : Type 0 w
   pub stays : any_lost o ≡ true → o' ≡ o
   pub refused : any_lost o ≡ true → r ≡ Err (record {})
 
--- Each of so many lines has had one write, and the last one's alone failed.
-pub record LastLost (n : ℕ) (o : List Bool) : Type 0 where
+-- After o was said, each of so many lines has had one write, and the last one's alone failed.
+pub record LastLost (o : List Bool) (n : ℕ) (o' : List Bool) : Type 0 where
   pub before : ℕ
   pub count : n ≡ before + 1
-  pub is : o ≡ one_lost before
+  pub is : o' ≡ o ++ one_lost before
 
--- Each of so many lines has had one write, and all succeeded, but for the last one where a failed write is said.
-abbrev pub OneWriteEach : Result ⊤ WriteFailed → ℕ → List Bool → Type 0
-OneWriteEach (Ok _) n o = o ≡ all_written n
-OneWriteEach (Err _) n o = LastLost n o
+-- After o was said, each of so many lines has had one write, and all succeeded, but for the last one where a failure is
+-- said.
+abbrev pub OneWriteEach : {E : Type 0} → List Bool → Result ⊤ E → ℕ → List Bool → Type 0
+OneWriteEach o (Ok _) n o' = o' ≡ o ++ all_written n
+OneWriteEach o (Err _) n o' = LastLost o n o'
 
 -- what is kept of standard output's writes: so many succeeded; or so many did, and the one after them failed
 abbrev pub recorded : Result ℕ ℕ → List Bool

@@ -12,24 +12,27 @@ use text::limits::ANSWER_ROOM;
 use text::progress::Progress;
 use text::squeeze::Squeeze;
 
-// A session on standard input: the line that has come so far, squeezed into the front of `line` (a slice with a length
-// beside it, and no Vec: the memory is fixed, with no heap), and the engine after the lines before it. The engine is a
-// reference: were it held by value, no proof would know what its store holds once the session is gone. (What is asked
-// of it stands at each method, since each names the session before and after anyway.)
+// A session on an input: the line that has come so far, squeezed into the front of `line` (a lent slice with a length
+// beside it, and no Vec: the memory is fixed, with no heap), the engine after the lines before it, and where their
+// answers go. The engine is a reference: were it held by value, no proof would know what its store holds once the
+// session is gone. (What is asked of it stands at each method, and in no invariant of the type: most of it is
+// `IsEngine`, which is none either.)
 #[derive(Drop)]
-pub struct Session<'l, 'b, 'a> {
+pub struct Session<'l, 'b, 'a, 'o, W: Output> {
     pub line: &'l mut [u8],
     pub squeeze: Squeeze,
     pub engine: &'l mut Engine<'b, 'a>,
+    pub output: &'o mut W,
 }
 
-impl<'l, 'b, 'a> Session<'l, 'b, 'a> {
-    // Puts the answer at the front of the output. The LF makes an empty line a line.
+impl<'l, 'b, 'a, 'o, W: Output> Session<'l, 'b, 'a, 'o, W> {
+    // Puts the answer at the front of `out`; it is not yet written. The LF makes an empty line a line.
     fn reply(&mut self, out: &mut [u8]) -> Progress
         requires { AnswerRequires (memory_of self.old) self.old.squeeze (contents self.old.engine.now)
             × (answer_room ≤ length out.old) }
         ensures loans { KeepsSession self.old self.new }
         ensures squeeze { self.new.squeeze ≡ self.old.squeeze }
+        ensures output { self.new.output.now ≡ self.old.output.now }
         ensures replies { ReplyEnsures (memory_of self.old) self.old.squeeze (contents self.old.engine.now)
             (memory_of self.new) (contents self.new.engine.now) out.new result }
     {
@@ -40,17 +43,17 @@ impl<'l, 'b, 'a> Session<'l, 'b, 'a> {
     }
 
     // Runs the line and writes its answer.
-    pub fn answer<W: Output>(&mut self, output: &mut W) -> Result<(), WriteFailed>
+    pub fn answer(&mut self) -> Result<(), WriteFailed>
         requires { AnswerRequires (memory_of self.old) self.old.squeeze (contents self.old.engine.now) }
         ensures loans { KeepsSession self.old self.new }
         ensures squeeze { self.new.squeeze ≡ self.old.squeeze }
         ensures answers { AnswerEnsures (memory_of self.old) self.old.squeeze (contents self.old.engine.now)
             (memory_of self.new) (contents self.new.engine.now) }
-        ensures writes { PutEnsures (W.outcomes output.old) (W.outcomes output.new) result }
+        ensures writes { PutEnsures (W.outcomes self.old.output.now) (W.outcomes self.new.output.now) result }
     {
         let mut out = [0u8; ANSWER_ROOM];
         let bytes = self.reply(&mut out).bytes;
-        output.put(&out[..bytes])
+        self.output.put(&out[..bytes])
     }
 }
 

@@ -1,27 +1,34 @@
-// Standard input, part after part.
+// An input, part after part.
+ghost use Rattle.std.specs.Io.KnownBytes.{IsAtEnd};
+ghost use Rattle.std.specs.Prelude.{◌≡◌, IfOk, OnOk};
 ghost use Rattle.session.specs.Answer.{memory_of, state_of, KeepsSession};
 ghost use Rattle.session.specs.Feed.{FeedRequires};
-ghost use Rattle.session.specs.Input.{ReadEnsures, InputInvariant, ReceiveEnsures};
+ghost use Rattle.session.specs.Input.{writing_of, ReadEnsures, ReceiveEnsures, Taken};
 
 use crate::answer::Session;
 use crate::outcome::Stopped;
 use crate::output::Output;
-use std::io::Stdin;
+use std::io::Read;
 
-// How many bytes are read at once. (An array: the memory is fixed, with no heap.)
+// How many bytes are read at once. (An array: the memory is fixed, with no heap. Each program says for itself what
+// memory it has, as in main.rt.)
 const PART: usize = 4096;
 
-impl<'l, 'b, 'a> Session<'l, 'b, 'a> {
+impl<'l, 'b, 'a, 'o, W: Output> Session<'l, 'b, 'a, 'o, W> {
     // Reads once, answers the lines that end in what came, and says how many bytes came.
-    fn read<W: Output>(&mut self, stdin: Stdin, output: &mut W) -> Result<usize, Stopped>
-        requires { FeedRequires (memory_of self.old) (state_of self.old (W.outcomes output.old)) }
+    fn read<R: Read>(&mut self, input: &mut R) -> Result<usize, Stopped>
+        requires { FeedRequires (memory_of self.old) (state_of W.outcomes self.old) }
         ensures loans { KeepsSession self.old self.new }
-        ensures reads { ReadEnsures (memory_of self.old) (state_of self.old (W.outcomes output.old))
-            (memory_of self.new) (state_of self.new (W.outcomes output.new)) result }
+        ensures reads { ReadEnsures (memory_of self.old) (state_of W.outcomes self.old)
+            (memory_of self.new) (state_of W.outcomes self.new) result }
+        ensures ended { IfOk result (λ count. count ≡ 0 → IsAtEnd (R.remaining input.new)) }
+        ensures takes { Taken (R.remaining input.old) (R.remaining input.new)
+            (memory_of self.old) (state_of W.outcomes self.old)
+            (memory_of self.new) (state_of W.outcomes self.new) (writing_of result) }
     {
         let mut part = [0u8; PART];
-        let count = stdin::read(stdin, &mut part)?;
-        self.feed(output, &part[..count])?;
+        let count = stdin::read(input, &mut part)?;
+        self.feed(&part[..count])?;
         Ok(count)
     }
 
@@ -29,16 +36,19 @@ impl<'l, 'b, 'a> Session<'l, 'b, 'a> {
     // says that an input does: no run uses this count up.
     //
     // The program `verdict` has this loop too, over a buffer. One for both is no plainer: it would take a trait with an
-    // error type, what may come, a relation for a part and a law that another may come, and here a struct over session
-    // and output.
-    pub fn receive<W: Output>(&mut self, stdin: Stdin, output: &mut W) -> Result<(), Stopped>
-        requires { InputInvariant (memory_of self.old) (state_of self.old (W.outcomes output.old)) }
+    // error type, what may come, a relation for a part and a law that another may come.
+    pub fn receive<R: Read>(&mut self, input: &mut R) -> Result<(), Stopped>
+        requires { FeedRequires (memory_of self.old) (state_of W.outcomes self.old) }
         ensures loans { KeepsSession self.old self.new }
-        ensures receives { ReceiveEnsures (memory_of self.old) (state_of self.old (W.outcomes output.old))
-            (memory_of self.new) (state_of self.new (W.outcomes output.new)) result }
+        ensures receives { ReceiveEnsures (memory_of self.old) (state_of W.outcomes self.old)
+            (memory_of self.new) (state_of W.outcomes self.new) result }
+        ensures ended { OnOk result (IsAtEnd (R.remaining input.new)) }
+        ensures takes { Taken (R.remaining input.old) (R.remaining input.new)
+            (memory_of self.old) (state_of W.outcomes self.old)
+            (memory_of self.new) (state_of W.outcomes self.new) (writing_of result) }
     {
         for _ in 0..u64::MAX {
-            if self.read(stdin, output)? == 0 {
+            if self.read(input)? == 0 {
                 return Ok(());
             }
         }

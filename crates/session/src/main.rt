@@ -15,7 +15,7 @@ mod tests;
 
 ghost use Rattle.std.specs.Prelude.{◌≡◌, ◌≤◌, [], length};
 ghost use Rattle.diagram.specs.Node.{capacity};
-ghost use Rattle.session.specs.Session.{SessionEnsures};
+ghost use Rattle.session.specs.Session.{SessionEnsures, RunsWhole};
 ghost use Rattle.text.specs.Engine.{contents, KeepsEngine};
 ghost use Rattle.text.specs.Limits.{line_room};
 
@@ -24,7 +24,7 @@ use diagram::diagram::Diagram;
 use diagram::registers::Registers;
 use outcome::Stopped;
 use output::{Output, Recorded};
-use std::io::Stdin;
+use std::io::Read;
 use text::engine::Engine;
 use text::limits::LINE_ROOM;
 use text::squeeze::Squeeze;
@@ -36,8 +36,8 @@ const STORE: usize = 32768;
 const CACHE: usize = 16384;
 
 // The session, in an engine with nothing in it: the input to its end, and its last line.
-fn run<'l, 'b, 'a, W: Output>(
-    stdin: Stdin,
+fn run<'l, 'b, 'a, R: Read, W: Output>(
+    input: &mut R,
     output: &mut W,
     line: &'l mut [u8],
     engine: &'l mut Engine<'b, 'a>,
@@ -48,18 +48,22 @@ fn run<'l, 'b, 'a, W: Output>(
     ensures loans { KeepsEngine engine.old engine.new }
     ensures session { SessionEnsures engine.new.diagram.now.store.now (contents engine.new) (W.outcomes output.new)
         result }
+    ensures whole { RunsWhole (R.remaining input.old) (R.remaining input.new)
+        engine.new.diagram.now.store.now (contents engine.new) (W.outcomes output.new) result }
 {
     engine.start();
     let mut session = Session {
         line,
         squeeze: Squeeze::none(),
         engine,
+        output,
     };
-    let received = session.receive(stdin, output);
-    session.finish(output, received)
+    let received = session.receive(input);
+    session.finish(received)
 }
 
-// The arrays as slices; their lengths are known here, and nothing has to count their elements.
+// The arrays as slices; their lengths are known here, and nothing has to count their elements. (Each program has its
+// own: what is made of them differs.)
 fn lend(rt: HostRuntime, store: &mut [u8; STORE], cache: &mut [u64; CACHE]) {
     let mut line = [0u8; LINE_ROOM];
     let mut diagram = Diagram::over(store, cache);
@@ -68,7 +72,7 @@ fn lend(rt: HostRuntime, store: &mut [u8; STORE], cache: &mut [u64; CACHE]) {
         registers: Registers::empty(),
     };
     let mut output = Recorded::new(rt.stdout());
-    if let Err(e) = run(rt.stdin(), &mut output, &mut line, &mut engine) {
+    if let Err(e) = run(&mut rt.stdin(), &mut output, &mut line, &mut engine) {
         // What cannot be written is left out.
         println!(rt.stderr(); "session: {e}").unwrap_or(());
     }

@@ -61,9 +61,10 @@ fn feed_twice<'l, 'b, 'a>(
         line,
         squeeze: Squeeze::none(),
         engine,
+        output,
     };
-    let three = session.feed(output, b"put\t0\t1\nput\t1\t2\nput\t2\t3\n");
-    let fourth = session.feed(output, b"put\t3\t4\n");
+    let three = session.feed(b"put\t0\t1\nput\t1\t2\nput\t2\t3\n");
+    let fourth = session.feed(b"put\t3\t4\n");
     three.is_err() && fourth.is_err()
 }
 

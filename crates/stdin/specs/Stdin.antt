@@ -1,4 +1,4 @@
--- What one read of standard input promises.
+-- What one read promises.
 use Rattle.std.specs.Prelude.{◌≡◌, ℕ, ◌≤◌, List, length, take}
 use Rattle.std.specs.Prelude.{Result, Ok, Err}
 use Rattle.stdin.specs.declared.ReadFailed.{ReadFailed}

@@ -1,10 +1,11 @@
 -- Session calls (document 01, "Session calls"; document 02, `on` and `lows`): a word and its numbers, with the checks
 -- that need the line alone.
-use Rattle.std.specs.Prelude.{◌≡◌, false, cond, ◌&&◌, ℕ, ◌≤◌, ◌<◌, leb, eqb, Result, Ok, Err}
+use Rattle.std.specs.Prelude.{◌≡◌, false, cond, ◌&&◌, ℕ, ◌≤◌, ◌<◌, leb, eqb, Option, Result, Ok, Err}
 use Rattle.std.specs.Prelude.{IfOk, List, ◌++◌, codes, decimal}
 use Rattle.diagram.specs.Gate.{printed as printed_gate}
 use Rattle.diagram.specs.Weights.{modulus}
 use Rattle.diagram.specs.Tensor.{bits, masks}
+use Rattle.text.specs.Text.{known}
 use Rattle.text.specs.Limits.{last_register, last_index, last_mask, last_weight, most_qubits, register_count}
 use Rattle.text.specs.Args.{no_numbers, one_number, two_numbers, three_numbers, four_numbers}
 use Rattle.text.specs.Names.{Placed}
@@ -82,6 +83,10 @@ call_of On = one_number malformed (λ a. check_register a (Ok (call.On a)))
 -- "The call `lows d a m` .. 1, 2, 3 and 8 are as for `low`."
 call_of Lows =
     three_numbers malformed (λ d a m. check_register d (check_register a (check_lowered m (Ok (call.Lows d a m)))))
+
+-- "1 (unknown word, .. malformed number)"
+abbrev pub known_call : Option Word → Option Args → Result Call Refusal
+known_call word args = known malformed word (λ w. known malformed args (call_of w))
 
 -- What a call carries is in range.
 abbrev pub InRange : Call → Type 0

@@ -1,16 +1,15 @@
 -- What the engine holds between two lines, read as a tally, and how a call that sets a register ends.
-use Rattle.std.specs.Prelude.{List, ◌≡◌, ℕ, Result, Err, IsErr, MatchResult, length}
+use Rattle.std.specs.Prelude.{List, ◌≡◌, ℕ, Result, Err, IsErr, length}
 use Rattle.diagram.specs.Tensor.{indices}
 use Rattle.diagram.specs.Store.{set_of}
 use Rattle.diagram.specs.Registers.{holds_all, RegistersValid}
 use Rattle.diagram.specs.Invariant.{Invariant}
-use Rattle.diagram.specs.Restore.{RollbackEnsures, RollbackRequires}
 use Rattle.diagram.specs.Cache.{AllEarlier}
 use Rattle.diagram.specs.Tally.{Step}
 use Rattle.diagram.specs.Node.{capacity}
 use Rattle.diagram.specs.Diagram.{KeepsLoans}
-use Rattle.std.specs.Fn.{Once, FnOnceTakesAtMut, FnOnceReturnsAtMut}
-use denote.Ref.{MutBor}
+use Rattle.diagram.specs.Attempt.{Steps, UndoRequires}
+use Rattle.std.specs.Fn.{FnOnceTakesAtMut, FnOnceReturnsAtMut}
 use Rattle.diagram.specs.declared.diagram.Diagram.{Diagram}
 use Rattle.diagram.specs.Operation.{RefinesCached}
 use Rattle.text.specs.Answer.{SmallAnswer}
@@ -55,12 +54,6 @@ pub record EngineStartEnsures (c' s s' : List ℕ) (e : Contents) : Type 0 where
   pub invariant : EngineInvariant c' s' e
   pub is : tally_of s' e ≡ empty_tally
 
--- "A call whose set would exceed the capacity is refused as 8 (full), and set and registers are as before it."
-pub record RefuseFullEnsures (c' s s' : List ℕ) (e : Contents) (r : Reply) : Type 0 where
-  pub answer : r.answer ≡ Err Full
-  pub restored : RollbackEnsures c' s s' e.state r.engine.state
-  pub registers : r.engine.registers.all ≡ e.registers.all
-
 -- "a refused line changes no register and leaves no new node"
 abbrev pub RefusedUnchanged : List ℕ → List ℕ → Contents → Reply → Type 0
 RefusedUnchanged s s' e r =
@@ -74,10 +67,6 @@ Forgotten c' r = AllEarlier c' r.engine.state.epoch
 
 abbrev pub FullForgets : List ℕ → Reply → Type 0
 FullForgets c' r = r.answer ≡ Err Full → Forgotten c' r
-
--- what a step that did not fit leaves can be rolled back
-abbrev pub SettleRequires : List ℕ → List ℕ → State → Result Edge steps.Full → Type 0
-SettleRequires c s st m = MatchResult m (λ _. Unit {0}) (λ _. RollbackRequires c s st)
 
 -- The call answers as the tally's does that sets register d by the step f, and leaves what that leaves.
 pub record SetsRegister (c' s s' : List ℕ) (e : Contents) (d : ℕ) (f : Step indices) (r : Reply) : Type 0 where
@@ -115,35 +104,16 @@ Sets e e' d f a =
     SetsRegister e'.diagram.now.cache.now e.diagram.now.store.now e'.diagram.now.store.now (contents e) d f
     (reply a e')
 
--- the engine e is where the step has left it, and st is the state before the step
-abbrev pub before_step : Engine → State → Contents
-before_step e st = record { state = st; registers = e.registers }
-
-abbrev pub RefusesFull : Engine → Engine → State → Refusal → Type 0
-RefusesFull e e' st why = RefuseFullEnsures e'.diagram.now.cache.now e.diagram.now.store.now e'.diagram.now.store.now
-    (before_step e st) (reply (Err why) e')
-
-abbrev pub MaySettle : Engine → State → Result Edge steps.Full → Type 0
-MaySettle e st m = SettleRequires e.diagram.now.cache.now e.diagram.now.store.now st m
-
-abbrev pub Settles : Engine → Engine → State → ℕ → Result Edge steps.Full → Result Answer Refusal → Type 0
-Settles e e' st d m a = SettleEnsures e.diagram.now.cache.now e.diagram.now.store.now e'.diagram.now.cache.now
-    e'.diagram.now.store.now (before_step e st) e.diagram.now.state d m (reply a e')
-
--- the contract of a closure that makes a step of a diagram
-abbrev pub Makes : Type 0 → Type 1
-Makes F = Once F (MutBor Diagram × Unit {0}) (Result Edge steps.Full × (MutBor Diagram × Unit {0}))
-
 -- The closure may be called with the engine's diagram. It keeps store and cache, and where its step does not fit, the
 -- diagram can be rolled back.
-pub record MaySet {F : Type 0} (g : Makes F) (step : F) (e : Engine) : Type 0 where
+pub record MaySet {F : Type 0} (g : Steps F) (step : F) (e : Engine) : Type 0 where
   pub may : FnOnceTakesAtMut g step e.diagram.now
   pub ends : (m : Result Edge steps.Full) (d' : Diagram) → FnOnceReturnsAtMut g step e.diagram.now m d'
-      → KeepsLoans e.diagram.now d' × SettleRequires d'.cache.now d'.store.now e.diagram.now.state m
+      → KeepsLoans e.diagram.now d' × UndoRequires d'.cache.now d'.store.now e.diagram.now.state m
 
 -- The closure was called: it answered `made` and left the diagram `left`. Then register d was set to that step's edge,
 -- or the call was refused.
-pub record SetsBy {F : Type 0} (g : Makes F) (step : F) (e e' : Engine) (d : ℕ) (a : Result Answer Refusal)
+pub record SetsBy {F : Type 0} (g : Steps F) (step : F) (e e' : Engine) (d : ℕ) (a : Result Answer Refusal)
     : Type 0 where
   pub made : Result Edge steps.Full
   pub left : Diagram

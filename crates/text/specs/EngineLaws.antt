@@ -1,12 +1,13 @@
 -- Laws of Engine: the start, and how a step is settled.
 use Rattle.std.specs.Prelude.{◌≡◌, refl, List, ℕ, ◌≤◌, ◌<◌, length, set, Result, Ok, Err, is_err, false, Some}
-use Rattle.std.proofs.Common.{◌∙◌, ap, sym, arith, le-leb}
+use Rattle.std.specs.Fn.{FnOnceReturnsAtMut}
+use Rattle.std.proofs.Common.{◌∙◌, ap, sym, subst, arith, le-leb}
 use Rattle.std.proofs.lemmas.Bool.{false≢true, lt-leb}
 use Rattle.diagram.specs.Restore.{StartEnsures, RollbackEnsures}
 use Rattle.diagram.specs.RestoreLaws.{full_rollback}
+use Rattle.diagram.specs.Invariant.{Invariant}
 use Rattle.diagram.specs.Registers.{Register, empty_registers, holds, holds_all, RegistersValid}
 use Rattle.diagram.specs.RegistersLaws.{holds_set}
-use Rattle.diagram.specs.Invariant.{Invariant}
 use Rattle.diagram.specs.InvariantLaws.{start_set, holds_after, refines_cached}
 use Rattle.diagram.specs.InvariantLaws.{invariant_start, invariant_rollback, invariant_cached}
 use Rattle.diagram.specs.Tensor.{indices, constant}
@@ -16,16 +17,17 @@ use Rattle.diagram.specs.Store.{set_of, tensor_of, RefinesEdge, nodes_of, Refine
 use Rattle.diagram.specs.StoreLaws.{set_length, refines_fits, refines_stays}
 use Rattle.diagram.specs.Operation.{RefinesCached}
 use Rattle.diagram.specs.Diagram.{KeepsLoans, Does, DoesCached}
-use Rattle.text.specs.Engine.{Makes, SetsBy, Sets, IsEngine}
+use Rattle.text.specs.Engine.{SetsBy, Sets, IsEngine, MaySet}
+use Rattle.diagram.specs.Attempt.{Steps, UndoRequires, Attempts}
 use Rattle.text.specs.declared.engine.Engine.{Engine}
 use Rattle.diagram.specs.declared.diagram.Diagram.{Diagram}
 use Rattle.diagram.specs.Weights.{to_weight, modulus}
 use Rattle.diagram.specs.BuildLaws.{constant_valid, constant_tensor}
 use Rattle.text.specs.Session.{empty_tally, at_most, node_count, accept, settle, refuse}
 use Rattle.text.specs.Agrees.{Unchanged}
-use Rattle.text.specs.Engine.{Contents, Reply, tally_of, EngineStartEnsures, RefuseFullEnsures, SetsRegister}
+use Rattle.text.specs.Engine.{Contents, Reply, tally_of, EngineStartEnsures, SetsRegister}
 use Rattle.text.specs.Engine.{SettleEnsures}
-use Rattle.text.specs.Engine.{EngineInvariant, SettleRequires}
+use Rattle.text.specs.Engine.{EngineInvariant}
 use Rattle.diagram.specs.declared.node.Edge.{Edge}
 use Rattle.diagram.specs.declared.make.State.{State}
 use Rattle.diagram.specs.declared.registers.Registers.{Registers}
@@ -70,11 +72,6 @@ settle_full : {s s₁ : List ℕ} (s' : List ℕ) {e : Contents} (n : Contents) 
 unfolding settle refuse tally_of set_of
 settle_full s' n d w q r = rw (lt-leb _ _ w.full, r, q ∙ w.kept)
 
-pub refuse_full_ensures : {c' s s' : List ℕ} {e : Contents} {st : State} → RollbackEnsures c' s s' e.state st
-    → RefuseFullEnsures c' s s' e
-    (record { answer = Err Full; engine = record { state = st; registers = e.registers } })
-refuse_full_ensures b = record { answer = refl; restored = b; registers = refl }
-
 -- an accepted call is not refused as full
 pub never_full : {X : Type 0} (a : Result Answer Refusal) → is_err a ≡ false → a ≡ Err Full → X
 never_full a p q = absurd (false≢true (sym p ∙ ap is_err q))
@@ -85,19 +82,22 @@ nodes_unchanged : {s s' : List ℕ} (st st' : State) {rs rs' : List Register} �
 unfolding nodes_of
 nodes_unchanged st st' p q = record { nodes = p; registers = q }
 
-pub settle_ensures_full : {c s c' s' : List ℕ} {e : Contents} {t : State} {d : ℕ} {x : steps.Full} {r : Reply}
-    → RefuseFullEnsures c' s s' e r → SettleEnsures c s c' s' e t d (Err x) r
-settle_ensures_full {c} {s} {c'} {s'} {e} {t} {d} {x} {r} b = record { on = on }
+pub settle_ensures_full : {c s c' s' : List ℕ} {e : Contents} {t st' : State} {rs' : Registers} {d : ℕ} {x : steps.Full}
+    → RollbackEnsures c' s s' e.state st' → rs'.all ≡ e.registers.all
+    → SettleEnsures c s c' s' e t d (Err x)
+    (record { answer = Err Full; engine = record { state = st'; registers = rs' } })
+settle_ensures_full {c} {s} {c'} {s'} {e} {t} {st'} {rs'} {d} {x} b q = record { on = on }
   where
     on : (c₀ s₀ : List ℕ) (f : Step indices) → EngineInvariant c₀ s₀ e
         → RefinesCached c s₀ s e.state t f (Err x)
-        → SetsRegister c' s₀ s' e d f r
+        → SetsRegister c' s₀ s' e d f
+        (record { answer = Err Full; engine = record { state = st'; registers = rs' } })
     on c₀ s₀ f p w = record {
-      invariant = rw b.registers (invariant_rollback p.registers b.restored);
-      small = rw b.answer tt;
-      is = rw b.answer (settle_full s' r.engine d w.step b.restored.kept b.registers);
-      refused = λ no. nodes_unchanged e.state r.engine.state (b.restored.kept ∙ w.step.kept) b.registers;
-      forgets = λ full. b.restored.forgotten;
+      invariant = rw q (invariant_rollback p.registers b);
+      small = tt;
+      is = settle_full s' (record { state = st'; registers = rs' }) d w.step b.kept q;
+      refused = λ no. nodes_unchanged e.state st' (b.kept ∙ w.step.kept) q;
+      forgets = λ full. b.forgotten;
     }
 
 pub settle_ensures_edge : {c s : List ℕ} {e : Contents} {d : ℕ} {x : Edge} {t : State} {rs : Registers}
@@ -119,18 +119,18 @@ settle_ensures_edge {c} {s} {e} {d} {x} {t} {rs} b = record { on = on }
           forgets = never_full (Ok (Done t.count)) refl;
         }
 
--- a step's answer can be settled
+-- what a step leaves can be taken back, where it did not fit
 pub cached_settle_requires : {c c' s s' : List ℕ} {st t : State} {rs : List Register} {f : Step indices}
     (m : Result Edge steps.Full)
     → Invariant c s st rs
-    → RefinesCached c' s s' st t f m → SettleRequires c' s' st m
+    → RefinesCached c' s s' st t f m → UndoRequires c' s' st m
 cached_settle_requires (Ok e) p w = tt
 cached_settle_requires (Err x) p w = full_rollback p.sound w
 
 pub step_settle_requires : {c c' s : List ℕ} {st : State} {rs : List Register} (s' : List ℕ) (t : State)
     (f : Step indices) (m : Result Edge steps.Full)
     → Invariant c s st rs → c' ≡ c
-    → Refines s s' st t f m → SettleRequires c' s' st m
+    → Refines s s' st t f m → UndoRequires c' s' st m
 step_settle_requires s' t f m p k w =
     rw k (cached_settle_requires m p (refines_cached s' p t f m w))
 
@@ -167,8 +167,38 @@ keeps_loans_then k l = record {
   same_cache = l.same_cache ∙ k.same_cache;
 }
 
+-- an attempt, of which it is known what it gave and left
+attempted_as : {F : Type 0} {g : Steps F} {step : F} {t u d' : Diagram} {m r : Result Edge steps.Full}
+    → Attempts g step t d' m → u ≡ d' → m ≡ r → Attempts g step t u r
+attempted_as {g = g} {step} {t} {d' = d'} {r = r} a same q =
+    subst (λ u. Attempts g step t u r) (sym same) (subst (Attempts g step t d') q a)
+
+-- an attempt of a step, and then the register: the diagram is where the attempt has left it
+module _ {F : Type 0} {g : Steps F} {step : F} {e : Engine} {m : Result Edge steps.Full} {d' : Diagram}
+    (a : Attempts g step e.diagram.now d' m) where
+  pub attempt_loans : MaySet g step e → KeepsLoans e.diagram.now d'
+  attempt_loans may = keeps_loans_then (may.ends m a.left a.met).0 a.loans
+
+  module _ {e' : Engine} {d : ℕ} (same : e'.diagram.now ≡ d') where
+    pub attempt_full : {x : steps.Full} → m ≡ Err x → e'.registers.all ≡ e.registers.all
+        → SetsBy g step e e' d (Err Full)
+    attempt_full {x} q r =
+        let b : Attempts g step e.diagram.now e'.diagram.now (Err x) = attempted_as a same q in
+        record { made = Err x; left = b.left; met = b.met; settles = settle_ensures_full b.ends r }
+
+    pub attempt_edge : {x : Edge} {n : ℕ} → m ≡ Ok x → e'.registers.all ≡ set e.registers.all d (Some x)
+        → n ≡ e'.diagram.now.state.count → SetsBy g step e e' d (Ok (Done n))
+    attempt_edge {x} q r count =
+        let b : Attempts g step e.diagram.now e'.diagram.now (Ok x) = attempted_as a same q in
+        record {
+          made = Ok x;
+          left = e'.diagram.now;
+          met = subst (FnOnceReturnsAtMut g step e.diagram.now (Ok x)) (sym b.ends) b.met;
+          settles = rw count (settle_ensures_edge r);
+        }
+
 -- the step of a closure, and then the register
-module _ {F : Type 0} {g : Makes F} {step : F} {e e' : Engine} {d : ℕ} {a : Result Answer Refusal} (p : IsEngine e)
+module _ {F : Type 0} {g : Steps F} {step : F} {e e' : Engine} {d : ℕ} {a : Result Answer Refusal} (p : IsEngine e)
     (k : SetsBy g step e e' d a) where
   pub sets_by_cached : {f : Step indices} → DoesCached e.diagram.now k.left f k.made → Sets e e' d f a
   sets_by_cached {f} w = sets_register_cached p f w k.settles

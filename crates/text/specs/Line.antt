@@ -1,10 +1,10 @@
 -- A line of a session (document 01, "Session calls"): the call that it is.
 use Rattle.std.specs.Prelude.{cond, List, [], ◌∷◌, ◌≡◌, Some, Result}
-use Rattle.text.specs.Text.{Bytes, bytes, same_bytes, fields, known}
+use Rattle.text.specs.Text.{Bytes, bytes, same_bytes, fields}
 use Rattle.text.specs.Limits.{most_digits}
 use Rattle.text.specs.Words.{word_of}
 use Rattle.text.specs.Args.{numbers}
-use Rattle.text.specs.Call.{malformed, call_of, Ranged}
+use Rattle.text.specs.Call.{malformed, known_call, Ranged}
 use Rattle.text.specs.Gate.{gate_call_fields}
 use Rattle.text.specs.declared.args.Args.TheVariants.{Zero}
 use Rattle.text.specs.declared.call.Call.{Call}
@@ -14,7 +14,7 @@ unfoldable pub call_fields : List Bytes → Result Call Refusal
 call_fields [] = malformed
 call_fields (word ∷ more) =
     cond (same_bytes word (bytes "gate")) (gate_call_fields more)
-    (known malformed (word_of word) (λ w. known malformed (numbers most_digits (Some Zero) more) (call_of w)))
+    (known_call (word_of word) (numbers most_digits (Some Zero) more))
 
 -- the call that a line is, or its refusal
 unfoldable pub read_line : Bytes → Result Call Refusal

@@ -1,11 +1,11 @@
 -- Laws of Line: its first field, then those after it; the call is in range.
 use Rattle.std.specs.Prelude.{◌≡◌, true, false, Bool, cond, List, [], ◌∷◌, ℕ, Some, Result, take}
 use Rattle.std.proofs.Common.{arith}
-use Rattle.text.specs.Text.{Bytes, bytes, tab, same_bytes, fields, known}
+use Rattle.text.specs.Text.{Bytes, bytes, tab, same_bytes, fields}
 use Rattle.text.specs.Limits.{most_digits}
 use Rattle.text.specs.Words.{word_of}
 use Rattle.text.specs.Args.{numbers}
-use Rattle.text.specs.Call.{call_of, malformed, Ranged}
+use Rattle.text.specs.Call.{known_call, Ranged}
 use Rattle.text.specs.Gate.{gate_call_fields}
 use Rattle.text.specs.Line.{call_fields, read_line, LineRead}
 use Rattle.text.specs.Split.{Ends, fields_after}
@@ -23,9 +23,7 @@ unfolding read_line call_fields
 line_gate {s} {e} r t = rw (fields_first (omega arith) r, part_front s e, t)
 
 pub line_other : {s : Bytes} {e : ℕ} → Ends tab s 0 e → same_bytes (take e s) (bytes "gate") ≡ false
-    → known malformed (word_of (take e s))
-    (λ w. known malformed (numbers most_digits (Some Zero) (fields_after s e)) (call_of w))
-    ≡ read_line s
+    → known_call (word_of (take e s)) (numbers most_digits (Some Zero) (fields_after s e)) ≡ read_line s
 unfolding read_line call_fields
 line_other {s} {e} r t = rw (fields_first (omega arith) r, part_front s e, t)
 
@@ -35,7 +33,7 @@ fields_ranged [] = tt
 fields_ranged (w ∷ fs) = go (same_bytes w (bytes "gate"))
   where
     go : (t : Bool) → Ranged (cond t (gate_call_fields fs)
-        (known malformed (word_of w) (λ w. known malformed (numbers most_digits (Some Zero) fs) (call_of w))))
+        (known_call (word_of w) (numbers most_digits (Some Zero) fs)))
     go true = gate_fields_ranged fs
     go false =
         known_lem Ranged _ _ tt

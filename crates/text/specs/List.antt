@@ -4,6 +4,7 @@ use Rattle.std.specs.Prelude.{Result, Ok, is_err, ⊤}
 use Rattle.text.specs.declared.check.Fault.{Fault}
 use Rattle.diagram.specs.Node.{capacity}
 use Rattle.text.specs.Text.{Bytes, LF, lines}
+use Rattle.text.specs.Limits.{most_qubits}
 use Rattle.text.specs.Ruling.{Ruling}
 use Rattle.text.specs.Session.{Capacity, at_most}
 use Rattle.text.specs.Check.{item_of, items, gate_items}
@@ -163,8 +164,9 @@ pub record GatesLoop (l : GateList) (a : ListState) (s₀ c s : List ℕ) (i : �
 
 -- the same, of the lists l before the call and l' after it
 
+-- "n 1 to 8"
 abbrev pub IsLists : Lists → Type 0
-IsLists l = IsEngine l.engine
+IsLists l = IsEngine l.engine × ((1 ≤ l.qubits) × (l.qubits ≤ most_qubits))
 
 -- where the run stands, the last line refused or not
 abbrev pub stand : Bool → Lists → ListState

@@ -22,7 +22,7 @@ use Rattle.diagram.specs.Compare.{ComparisonMeans, compared, CompareEnsures}
 use Rattle.diagram.specs.CompareLaws.{compared_means}
 use Rattle.diagram.specs.Collect.{CollectEnsures}
 use Rattle.diagram.specs.Support.{support_mask}
-use Rattle.text.specs.Call.{InRange, Ranged, refusal_number}
+use Rattle.text.specs.Call.{InRange, refusal_number}
 use Rattle.text.specs.Answer.{SmallAnswer}
 use Rattle.text.specs.Session.{TallyReply, refuse, with_tensor, with_register, at_most, answer, settle}
 use Rattle.text.specs.Session.{node_count, accept}
@@ -51,20 +51,6 @@ ranged_as y r e = subst InRange e r
 pub responds_as : {c' s s' : List ℕ} {e : Contents} {x y : Call} {r : Reply} → y ≡ x → RespondEnsures c' s s' e x r
     → RespondEnsures c' s s' e y r
 responds_as {c'} {s} {s'} {e} {r = r} q h = subst (λ z. RespondEnsures c' s s' e z r) (sym q) h
-
-pub reply_call : {c' s s' : List ℕ} {e : Contents} {x : Result Call Refusal} {y : Call} {r : Reply} → x ≡ Ok y
-    → RespondEnsures c' s s' e y r
-    → ReplyEnsures c' s s' e x r
-reply_call q h = record {
-  invariant = h.invariant;
-  small = h.small;
-  is = rw q h.is;
-  refused = h.refused;
-  forgets = rw q h.forgets;
-}
-
-pub read_ranged : {x : Result Call Refusal} {y : Call} → Ranged x → x ≡ Ok y → InRange y
-read_ranged h q = rw q at h
 
 -- an operand
 

@@ -1,16 +1,18 @@
 -- Laws of Ruling: a verdict's answer has at most 32 bytes.
-use Rattle.std.specs.Prelude.{◌≡◌, ℕ, ◌+◌, ◌^◌, ◌≤◌, ◌<◌, length, Ok}
+use Rattle.std.specs.Prelude.{◌≡◌, refl, ℕ, ◌+◌, ◌^◌, ◌≤◌, ◌<◌, length, Result, Ok}
 use mathlib.Core.List.{[], ◌∷◌, ◌++◌, append_assoc}
 use Rattle.std.proofs.Common.{ap, arith}
 use Rattle.std.proofs.Math.ListN.{length-append}
 use Rattle.text.specs.Text.{Bytes, bytes, LF, tab}
 use Rattle.text.specs.Limits.{verdict_room}
 use Rattle.text.specs.Print.{decimal, WriteEnsures}
-use Rattle.text.specs.Answer.{line_of_fields, AnswerWritten}
-use Rattle.text.specs.Ruling.{fault_number, printed_ruling, no_at, RulingWritten}
+use Rattle.text.specs.Answer.{line_of_fields, printed, AnswerWritten}
+use Rattle.text.specs.Ruling.{fault_number, Ruling, printed_ruling, no_at, RulingWritten}
 use Rattle.text.specs.PrintLaws.{wrote_then, wrote_room, decimal_length}
 use Rattle.text.specs.declared.check.Fault.{Fault}
 use Rattle.text.specs.declared.check.FaultAt.{FaultAt}
+use Rattle.text.specs.declared.call.Refusal.{Refusal}
+use Rattle.text.specs.declared.answer.Answer.{Answer}
 use Rattle.text.specs.declared.answer.Answer.TheVariants.{Compared}
 use Rattle.diagram.specs.declared.compare.Comparison.{Comparison}
 
@@ -62,11 +64,15 @@ no_at_same {f} {g} {line} {at} e =
     (ap (λ (x : FaultAt). x.fault) o, ap (λ (x : FaultAt). x.line) o)
 
 -- an answer that fits 16 bytes fits 32
-pub ruling_written_answer : {l l' : Bytes} {n : ℕ} (r : Comparison) → AnswerWritten l 0 (Ok (Compared r)) l' n
-    → RulingWritten l (Ok r) l' n
-unfolding printed_ruling
-ruling_written_answer r p = record {
-  exact = p.exact;
-  count = omega (arith, p.after);
+pub ruling_written_answer : {l l' : Bytes} {n : ℕ} (a : Result Answer Refusal) (r : Ruling)
+    → printed_ruling r ≡ printed a → AnswerWritten l 0 a l' n → RulingWritten l r l' n
+ruling_written_answer a r e p = record {
+  exact = rw e p.exact;
+  count = rw e (omega (arith, p.after));
   short = omega (arith, p.after, p.short);
 }
+
+-- a comparison, as a session answers it and as a verdict does
+pub ruling_compared : (r : Comparison) → printed_ruling (Ok r) ≡ printed (Ok (Compared r))
+unfolding printed_ruling
+ruling_compared r = refl

@@ -14,7 +14,7 @@ use Rattle.text.specs.Number.{number_of}
 use Rattle.text.specs.Words.{word_of}
 use Rattle.text.specs.Args.{push_number, numbers, by_count}
 use Rattle.text.specs.Names.{one_qubit, two_qubits}
-use Rattle.text.specs.Call.{call_of, malformed}
+use Rattle.text.specs.Call.{known_call, malformed}
 use Rattle.text.specs.Gate.{gate_call_of, gate_call_fields}
 use Rattle.text.specs.Line.{call_fields, read_line}
 use Rattle.text.specs.Squeeze.{squeezed_from, trimmed, squeezed}
@@ -212,10 +212,7 @@ module _ {A : Type 0} (says : Option Args → A) (m : ℕ) (most : m ≤ 5)
       ∙ numbers_cut n (push_number args (number_of most_digits f)) fs
       (count_with args (number_of most_digits f) m n most h)
 
-abbrev says_call : Option Word → Option Args → Result Call Refusal
-says_call w x = known malformed w (λ w. known malformed x (call_of w))
-
-call_wrong : (w : Option Word) (x : Option Args) → 5 ≤ arg_count x → says_call w x ≡ says_call w None
+call_wrong : (w : Option Word) (x : Option Args) → 5 ≤ arg_count x → known_call w x ≡ known_call w None
 call_wrong w None h = refl
 call_wrong w (Some Zero) h = absurd (omega arith)
 call_wrong w (Some (One a)) h = absurd (omega arith)
@@ -258,7 +255,7 @@ unfolding call_fields
 call_cut [] = refl
 call_cut (f ∷ fs) =
     let args =
-    numbers_cut (says_call (word_of f)) 5 (omega arith) (call_wrong (word_of f)) 5 (Some Zero) fs (omega arith) in
+    numbers_cut (known_call (word_of f)) 5 (omega arith) (call_wrong (word_of f)) 5 (Some Zero) fs (omega arith) in
     rw (known_cut f (bytes "gate") refl, gate_cut fs, word_cut f, args)
 
 pub read_line_squeezed : (s : Bytes) → read_line (squeezed s) ≡ read_line s

@@ -6,8 +6,8 @@ ghost use Rattle.text.specs.Args.{push, numbers};
 
 use crate::number;
 
-// At most four numbers. (Each count is a case of its own, so that a call says in its pattern how many it has. With a
-// buffer and its length each would have to test the length, and name its numbers by place.)
+// At most four numbers. (Each count is a case of its own, so that a call says in its pattern how many it has. A pattern
+// of a slice, as `[d, w]`, would need the numbers in a buffer with a length beside it, since there is no heap.)
 #[derive(Clone, Copy)]
 pub enum Args {
     Zero,

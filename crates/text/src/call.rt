@@ -2,7 +2,8 @@
 #![tactic(auto, unfolding(crate::specs::Args::by_count, crate::specs::Call::call_of))]
 
 ghost use Rattle.std.specs.Prelude.{◌≡◌, ◌≤◌, Ok, Some};
-ghost use Rattle.text.specs.Call.{check_range, check_register, check_lowered, call_of, refusal_number, printed_call};
+ghost use Rattle.text.specs.Call.{check_range, check_register, check_lowered, call_of, known_call, refusal_number};
+ghost use Rattle.text.specs.Call.{printed_call};
 ghost use Rattle.text.specs.Limits.{last_weight};
 
 use crate::args::Args;
@@ -29,6 +30,7 @@ pub enum Refusal {
 }
 
 impl Refusal {
+    // (`as`: an enum's number has no From.)
     pub fn number(self) -> usize
         ensures { (result ≡ refusal_number self) × (result ≤ last_weight) }
     {
@@ -36,7 +38,8 @@ impl Refusal {
     }
 }
 
-// A call with its registers, weights, masks, indices and assignments, in the documents' order.
+// A call with its registers, weights, masks, indices and assignments, in the documents' order. (`InRange` stands in
+// clauses: its numbers are plain ones, as node.rt of diagram has it for an index.)
 #[derive(Clone, Copy)]
 pub enum Call {
     Put(RegisterNumber, Weight),
@@ -191,7 +194,7 @@ fn lows(d: RegisterNumber, a: RegisterNumber, m: Mask) -> Result<Call, Refusal>
 }
 
 // The call of a word, other than `gate`, with these numbers.
-pub fn make(word: Word, args: Args) -> Result<Call, Refusal>
+fn counted(word: Word, args: Args) -> Result<Call, Refusal>
     ensures { result ≡ call_of word args }
 {
     match (word, args) {
@@ -208,4 +211,13 @@ pub fn make(word: Word, args: Args) -> Result<Call, Refusal>
         (Word::Lows, Args::Three(d, a, m)) => lows(d, a, m),
         _ => Err(Refusal::Malformed),
     }
+}
+
+// The same, or 1 where there is no such word, or a number is malformed.
+pub fn make(word: Option<Word>, args: Option<Args>) -> Result<Call, Refusal>
+    ensures { result ≡ known_call word args }
+{
+    let word = word.ok_or(Refusal::Malformed)?;
+    let args = args.ok_or(Refusal::Malformed)?;
+    counted(word, args)
 }

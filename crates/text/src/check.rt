@@ -24,6 +24,7 @@ pub enum Fault {
 }
 
 impl Fault {
+    // (`as`: an enum's number has no From.)
     pub fn number(self) -> usize
         ensures { (result ≡ fault_number self) × (result ≤ 14) }
     {
@@ -64,7 +65,9 @@ pub struct Checked {
     pub count: usize,
 }
 
-// The item of the gate of a name, if that is one.
+// The item of the gate of a name, if that is one. (Gate calls have the like of this and of `gate_item`, gate.rt: one
+// for both would take the two errors, what the gate is put into and a register's check as parameters, and a law for
+// each.)
 fn named(n: QubitCount, g: Option<Gate>) -> Result<Item, Fault>
     ensures { result ≡ named_item n g }
 {

@@ -1,7 +1,6 @@
 // The verdict on a text (document 01, "Verdicts"): every line is read, both lists are run, and their registers are
 // compared.
-ghost use Rattle.std.specs.Prelude.{◌≡◌, ◌≤◌, Err};
-ghost use Rattle.text.specs.Limits.{most_qubits};
+ghost use Rattle.std.specs.Prelude.{◌≡◌, Err};
 ghost use Rattle.text.specs.Check.{GoodText, CheckedInRange};
 ghost use Rattle.text.specs.Ruling.{no_at};
 ghost use Rattle.text.specs.List.{IsLists, ListAhead};
@@ -20,6 +19,7 @@ use diagram::compare::Comparison;
 use diagram::diagram::Diagram;
 use diagram::registers::Registers;
 
+// (Where there is none, `Differ`: both registers are filled, and no answer but a comparison comes.)
 fn comparison_of(answer: Result<Answer, Refusal>) -> Comparison
     ensures { result ≡ comparison_of answer }
 {
@@ -41,8 +41,7 @@ fn full_at(line: LineNumber) -> FaultAt
 
 // The second list, from the line `=` on, and "then `cmp 0 1`".
 fn second(lists: &mut Lists, count: usize) -> Result<Comparison, FaultAt>
-    requires { IsLists lists.old × (ListAhead lists.old 1 count ×
-        ((1 ≤ lists.old.qubits) × (lists.old.qubits ≤ most_qubits))) }
+    requires { IsLists lists.old × ListAhead lists.old 1 count }
     ensures { JudgesSecond lists.old count result }
 {
     lists.run(1, count).map_err(|_| full_at(lists.line))?;

@@ -1,6 +1,6 @@
 // What the numbers of a line are, and how large document 01 lets them be. (A line's numbers are `usize`, diagram's
 // weights and masks `u64`: there is no From between the two, so `as` stands where one becomes the other.)
-use diagram::gate::{Qubit, QubitCount};
+use diagram::gate::QubitCount;
 use diagram::node::Index;
 use diagram::registers::RegisterNumber;
 
@@ -20,8 +20,6 @@ pub const LAST_WEIGHT: Weight = 65536;
 
 // "n 1 to 8"
 pub const MOST_QUBITS: QubitCount = 8;
-
-pub const LAST_QUBIT: Qubit = 7;
 
 // "bits of m, at most 16777215", "assignment v, at most 16777215"
 pub const LAST_MASK: Mask = 16777215;

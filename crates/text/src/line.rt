@@ -14,7 +14,5 @@ pub fn read(line: &[u8]) -> Result<Call, Refusal>
     if word == b"gate".as_slice() {
         return gate::read(line, e);
     }
-    let word = words::read(word).ok_or(Refusal::Malformed)?;
-    let args = args::after(line, e, MOST_DIGITS).ok_or(Refusal::Malformed)?;
-    call::make(word, args)
+    call::make(words::read(word), args::after(line, e, MOST_DIGITS))
 }

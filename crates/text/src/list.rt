@@ -1,6 +1,5 @@
 // The lists of a verdict's text, run as its lines are read again (document 01, "Verdicts").
-ghost use Rattle.std.specs.Prelude.{◌≡◌, ◌+◌, ◌≤◌, ◌<◌};
-ghost use Rattle.text.specs.Limits.{most_qubits};
+ghost use Rattle.std.specs.Prelude.{◌<◌};
 ghost use Rattle.text.specs.List.{IsLists, IsAhead, IsGateAhead, GatesAhead, ListAhead};
 ghost use Rattle.text.specs.List.{KeepsText, PassesLine, Opens, RunsGate, RunsGates, RunsList};
 
@@ -12,7 +11,8 @@ use diagram::gate::QubitCount;
 use diagram::registers::RegisterNumber;
 
 // A good text on so many qubits, and where the run of its lists stands: `line` lines were run, and the next begins at
-// `place`.
+// `place`. (A place, and not the rest of the text: what is promised counts lines from the text's front. `IsLists`
+// stands at each method, and in no invariant of the type: it is not true within a call of the engine.)
 #[derive(Drop)]
 pub struct Lists<'t, 'b, 'a> {
     pub text: &'t [u8],
@@ -38,8 +38,7 @@ impl<'t, 'b, 'a> Lists<'t, 'b, 'a> {
 
     // "`unit` in 0", at the header, or in 1, at `=`.
     fn open(&mut self, r: RegisterNumber) -> Result<(), Refusal>
-        requires { IsLists self.old × (IsAhead self.old ×
-            ((r < 2) × ((1 ≤ self.old.qubits) × (self.old.qubits ≤ most_qubits)))) }
+        requires { IsLists self.old × (IsAhead self.old × (r < 2)) }
         ensures text { KeepsText self.old self.new }
         ensures opens { Opens self.old self.new r result }
     {
@@ -49,7 +48,7 @@ impl<'t, 'b, 'a> Lists<'t, 'b, 'a> {
 
     // The gate of the line at hand.
     fn gate(&mut self, r: RegisterNumber) -> Result<(), Refusal>
-        requires { IsLists self.old × (IsGateAhead self.old × ((r < 2) × (self.old.qubits ≤ most_qubits))) }
+        requires { IsLists self.old × (IsGateAhead self.old × (r < 2)) }
         ensures text { KeepsText self.old self.new }
         ensures runs { RunsGate self.old self.new r result }
     {
@@ -60,8 +59,7 @@ impl<'t, 'b, 'a> Lists<'t, 'b, 'a> {
 
     // The gates of `count` lines.
     fn gates(&mut self, r: RegisterNumber, count: usize) -> Result<(), Refusal>
-        requires { IsLists self.old × (GatesAhead self.old r count ×
-            ((r < 2) × (self.old.qubits ≤ most_qubits))) }
+        requires { IsLists self.old × (GatesAhead self.old r count × (r < 2)) }
         ensures text { KeepsText self.old self.new }
         ensures runs { RunsGates self.old self.new r count result }
     {
@@ -73,8 +71,7 @@ impl<'t, 'b, 'a> Lists<'t, 'b, 'a> {
 
     // The list in register r: its head line, and `count` gate lines.
     pub(crate) fn run(&mut self, r: RegisterNumber, count: usize) -> Result<(), Refusal>
-        requires { IsLists self.old × (ListAhead self.old r count ×
-            ((r < 2) × ((1 ≤ self.old.qubits) × (self.old.qubits ≤ most_qubits)))) }
+        requires { IsLists self.old × (ListAhead self.old r count × (r < 2)) }
         ensures text { KeepsText self.old self.new }
         ensures runs { RunsList self.old self.new r count result }
     {

@@ -54,7 +54,8 @@ pub(crate) enum Misplaced {
     Equal,
 }
 
-// The gate, where its qubits are below n and differ.
+// The gate, where its qubits are below n and differ. (`Placed` stands in clauses, and in no type: n is the text's, and
+// gates are made before they are placed.)
 #[tactic(auto, unfolding(crate::specs::Names::placed_gate))]
 pub(crate) fn placed(g: Gate, n: QubitCount) -> Result<Gate, Misplaced>
     ensures { result ≡ placed_gate n g }

@@ -25,7 +25,8 @@ fn needless(s: &[u8]) -> bool
     matches!(s, [b'0', _, ..])
 }
 
-// A number of 1 to `most` digits.
+// A number of 1 to `most` digits. (No FromStr or TryFrom here, in words.rt and in names.rt: a line is bytes and no
+// `str`, and an error would say no more than None.)
 #[tactic(auto, unfolding(crate::specs::Number::number_of))]
 pub fn read(s: &[u8], most: usize) -> Option<usize>
     requires { most ≤ most_digits }

@@ -85,7 +85,8 @@ impl<'b, 'a> Engine<'b, 'a> {
         self.set(d, |diagram| diagram.lower(a, k))
     }
 
-    // The same, or 7 where it depends on k - 1.
+    // The same, or 7 where it depends on k - 1. (`low` and `lows` are two calls in the documents, with a test for 7
+    // each: a bit of the mask, and the set's. What they share is `set`.)
     pub(crate) fn low(&mut self, d: RegisterNumber, a: Edge, k: Index) -> Result<Answer, Refusal>
         requires { IsEngine self.old ×
             ((d < register_count) × (IsEdge self.old.diagram.now a × ((1 ≤ k) × (k ≤ last_index)))) }

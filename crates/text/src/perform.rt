@@ -30,7 +30,7 @@ impl<'b, 'a> Engine<'b, 'a> {
         ensures drops { DropsAndCollects self.old self.new }
     {
         self.registers.clear(2);
-        self.registers = self.diagram.collect(self.registers);
+        self.diagram.collect(&mut self.registers);
     }
 
     // A gate of the list in register r. With nothing there, its `cont` would be refused.

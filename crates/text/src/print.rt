@@ -10,9 +10,9 @@ fn digit_byte(d: usize) -> u8
     b'0' + d as u8
 }
 
-// Puts s at a place, and answers the place after it. (That there is room stands at each function that puts: how much
-// differs. A struct of the output and the place would hold a lent slice, and
-// each promise would have to say that it is still the same one.)
+// Puts s at a place, and answers the place after it. (Output and place are two parameters, and that there is room is
+// asked at each function that puts: a struct of them would hold a lent slice, and each promise would have to say that
+// it is still the same one.)
 pub(crate) fn put_bytes(out: &mut [u8], at: usize, s: &[u8]) -> usize
     requires { at + length s.now ≤ length out.old }
     ensures { WriteEnsures out.old at s.now out.new result }

@@ -21,7 +21,8 @@ pub struct SessionResult {
     pub registers: Registers,
 }
 
-// How far a run has come; the text is read up to `place`. (The code is a number, as in the result.)
+// How far a run has come; the text is read up to `place`. (The code is document 01's number, which the result takes
+// over: as an enum it would be turned into that number there.)
 #[derive(Clone, Copy)]
 pub struct Progress {
     pub code: usize,

@@ -100,7 +100,7 @@ impl<'b, 'a> Engine<'b, 'a> {
         ensures loans { KeepsEngine self.old self.new }
         ensures responds { Responds self.old self.new call.Collect (Ok result) }
     {
-        self.registers = self.diagram.collect(self.registers);
+        self.diagram.collect(&mut self.registers);
         Answer::Done(self.diagram.state.count)
     }
 

@@ -10,8 +10,8 @@ use crate::progress::SessionResult;
 use diagram::diagram::Diagram;
 use diagram::registers::Registers;
 
-// The session of a text up to its first `limit` lines.
-// (Text, store, cache and output travel as four slices here and in judge.rt, as the C interface lends them.)
+// The session of a text up to its first `limit` lines. (Text, store, cache and output travel as four slices here and in
+// judge.rt, and in the programs that call these, as the C interface lends them.)
 pub fn work(
     text: &[u8],
     store: &mut [u8],

@@ -1,9 +1,11 @@
-// The parts of a text: where one ends. (Line and place are two parameters: the place moves on, the line does not.)
+// The parts of a text: where one ends. (Line and place are two parameters, and no slice of the rest: what is read of a
+// line is stated by its places.)
 ghost use Rattle.std.specs.Prelude.{◌≡◌, ◌≤◌, length, MatchOption};
 ghost use Rattle.text.specs.Text.{LF};
 ghost use Rattle.text.specs.Split.{Ends, FieldAfter, line_of, Without, FirstLine};
 
-// The place of the first byte b from a on, or the length. (No Option: where there is no b, the last part ends there.)
+// The place of the first byte b from a on, or the length. (No Option: where there is no b, the last part ends there. A
+// first field or line is cut off with it where the place is wanted too, to read on from there.)
 pub fn end(s: &[u8], a: usize, b: u8) -> usize
     requires { a ≤ length s.now }
     ensures { Ends b s.now a result }

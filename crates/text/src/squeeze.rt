@@ -4,7 +4,10 @@ ghost use Rattle.text.specs.Limits.{line_room};
 ghost use Rattle.text.specs.Squeeze.{SqueezeFits, NoneEnsures, PushEnsures};
 
 // What is kept of a line: how many bytes, tabs, and bytes of the present field. A line may go on for ever, so these
-// stop at 59, 5 and 9. (The buffer is the caller's: no heap, and a struct over it could not be copied between reads.)
+// stop at 59, 5 and 9. (No heap: the buffer is the caller's, of any length from 64 on. A struct that owned an array
+// would take no other, and of a slice in a struct nothing is known once its front was lent, as it is where the line is
+// read. `SqueezeFits` stands in clauses, and in no ghost field: a file with one may not name definitions about its
+// struct.)
 #[derive(Clone, Copy)]
 pub struct Squeeze {
     pub length: usize,

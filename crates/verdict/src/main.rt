@@ -4,17 +4,17 @@
 // so, as it does of an answer that could not be written. (The exit status is 0 all the same.)
 #![tactic(auto)]
 
-mod buffer;
 mod input;
 mod outcome;
 
 ghost use Rattle.std.specs.Prelude.{◌≡◌, ◌≤◌, IfOk, length};
 ghost use Rattle.diagram.specs.Node.{capacity};
-ghost use Rattle.verdict.specs.Verdict.{RunEnsures};
+ghost use Rattle.verdict.specs.Input.{KeepsBuffer};
+ghost use Rattle.verdict.specs.Verdict.{RunEnsures, AnswersWhole};
 
-use buffer::{Buffer, TEXT};
+use input::Buffer;
 use outcome::Unjudged;
-use std::io::{Print, Stderr, Stdin, Stdout};
+use std::io::{Print, Read, Stderr, Stdout};
 use text::limits::VERDICT_ROOM;
 use text::ruling::VerdictResult;
 
@@ -24,18 +24,24 @@ const STORE: usize = 32768;
 // 4096 remembered results of four words.
 const CACHE: usize = 16384;
 
-fn run(
-    stdin: Stdin,
+// The longest text: 1 MiB.
+const TEXT: usize = 1048576;
+
+fn run<R: Read>(
+    input: &mut R,
     buffer: &mut Buffer,
     store: &mut [u8],
     cache: &mut [u64],
     out: &mut [u8],
 ) -> Result<VerdictResult, Unjudged>
     requires { capacity store.old ≡ 2048 }
-    ensures { RunEnsures buffer.old buffer.new store.old
+    ensures loans { KeepsBuffer buffer.old buffer.new }
+    ensures judges { RunEnsures buffer.old buffer.new store.old
+        out.old out.new result }
+    ensures whole { AnswersWhole (R.remaining input.old) buffer.new store.old
         out.old out.new result }
 {
-    buffer.receive(stdin)?;
+    buffer.receive(input)?;
     outcome::judge(buffer, store, cache, out)
 }
 
@@ -53,19 +59,18 @@ fn show(stdout: Stdout, stderr: Stderr, out: &[u8], outcome: Result<VerdictResul
     }
 }
 
-// The arrays as slices; their lengths are known here, and nothing has to count their elements.
-fn lend(rt: HostRuntime, buffer: &mut Buffer, store: &mut [u8; STORE], cache: &mut [u64; CACHE]) {
+// The arrays as slices; their lengths are known here, and nothing has to count their elements. (Each program has its
+// own: what is made of them differs.)
+fn lend(rt: HostRuntime, text: &mut [u8; TEXT], store: &mut [u8; STORE], cache: &mut [u64; CACHE]) {
     let mut out = [0u8; VERDICT_ROOM];
-    let outcome = run(rt.stdin(), buffer, store, cache, &mut out);
+    let mut buffer = Buffer { text, len: 0 };
+    let outcome = run(&mut rt.stdin(), &mut buffer, store, cache, &mut out);
     show(rt.stdout(), rt.stderr(), &out, outcome);
 }
 
 fn main(rt: HostRuntime) {
-    let mut buffer = Buffer {
-        text: [0u8; TEXT],
-        len: 0,
-    };
+    let mut text = [0u8; TEXT];
     let mut store = [0u8; STORE];
     let mut cache = [0u64; CACHE];
-    lend(rt, &mut buffer, &mut store, &mut cache);
+    lend(rt, &mut text, &mut store, &mut cache);
 }

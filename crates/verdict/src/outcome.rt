@@ -1,9 +1,10 @@
 // The answer is about a whole text, or there is none.
-ghost use Rattle.verdict.specs.Outcome.{JudgeEnsures};
-ghost use Rattle.std.specs.Prelude.{◌≡◌};
+ghost use Rattle.std.specs.Prelude.{◌≡◌, Some};
+ghost use Rattle.verdict.specs.Outcome.{printed, JudgeEnsures};
 ghost use Rattle.verdict.specs.declared.outcome.Unjudged.TheVariants.{ReadFailed as Unread};
 
-use crate::buffer::{Buffer, TEXT};
+use crate::TEXT;
+use crate::input::Buffer;
 use std::fmt;
 use stdin::ReadFailed;
 use text::judge;
@@ -19,12 +20,14 @@ pub enum Unjudged {
 impl From<ReadFailed> for Unjudged {
     ghost from_gives = { λ _ e. e ≡ Unread };
 
-    fn from(_e: ReadFailed) -> Unjudged {
-        Unjudged::ReadFailed
+    fn from(_e: ReadFailed) -> Self {
+        Self::ReadFailed
     }
 }
 
 impl fmt::Display for Unjudged {
+    ghost output = { λ e. Some (printed e) };
+
     fn fmt<W: fmt::Write>(&self, f: &mut fmt::Formatter<W>) -> fmt::Result {
         match self {
             Unjudged::TooLong => write!(f, "the text is longer than {TEXT} bytes"),
@@ -43,7 +46,7 @@ pub fn judge(
     ensures { JudgeEnsures buffer.now store.old
         out.old out.new result }
 {
-    if TEXT < buffer.len {
+    if buffer.text.len() < buffer.len {
         return Err(Unjudged::TooLong);
     }
     Ok(judge::verdict(&buffer.text[..buffer.len], store, cache, out))

@@ -9,4 +9,4 @@ compact-kept-requires c = (
 )
 
 pub returns : goal.returns
-returns c = sweep_ensures c.requires.1.1.1 c.reach.ensures c.compact-kept.ensures c.renumber-registers.ensures
+returns c = sweep_ensures c.requires.1.1.1 c.reach.ensures c.compact-kept.ensures c.renumber.ensures

@@ -7,7 +7,7 @@ use Rattle.text.proofs.judge.run.Goals as goal
 
 pub run-requires : goal.run-requires
 run-requires c =
-    (c.start.ensures.start.invariant, (first_ahead c.requires.0, (search rules, (c.requires.1.0, c.requires.1.1))))
+    ((c.start.ensures.start.invariant, (c.requires.1.0, c.requires.1.1)), (first_ahead c.requires.0, search rules))
 
 pub returns-in_err-map_err : goal.returns-in_err-map_err
 returns-in_err-map_err c =
@@ -21,11 +21,8 @@ second-requires c =
     let k = c.run.ensures.text in
     let w = c.run.ensures.runs in
     let accepted : is_err c.run.result ≡ false = search rules in (
-      w.invariant,
-      (
-        rw (k.same_text, k.same_qubits) (second_ahead c.requires.0 c.start.ensures.start w accepted),
-        rw k.same_qubits (c.requires.1.0, c.requires.1.1),
-      ),
+      (w.invariant, rw k.same_qubits (c.requires.1.0, c.requires.1.1)),
+      rw (k.same_text, k.same_qubits) (second_ahead c.requires.0 c.start.ensures.start w accepted),
     )
 
 pub returns : goal.returns

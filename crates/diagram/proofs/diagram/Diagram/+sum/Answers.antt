@@ -1,3 +1,5 @@
+-- The low part, then the high part, joined; a weight taken out first, and a remembered answer used. (`sum`, `contract`
+-- and `lows` each do this for themselves: operation.rt.)
 use Rattle.std.proofs.lemmas.Result.{err_from_is_err_and}
 use borrow.Author.Rules.{rules}
 use native.Mathlib.Omega.{arith}

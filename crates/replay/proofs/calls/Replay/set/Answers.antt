@@ -1,16 +1,16 @@
 use borrow.Author.Rules.{rules}
-use Rattle.std.specs.Fn.{FnOnceReturnsAtMut}
-use Rattle.replay.specs.ReplayLaws.{settled, settled_full}
+use Rattle.replay.specs.ReplayLaws.{may_undo, attempt_edge}
 use Rattle.replay.proofs.calls.Replay.set.Goals as goal
 
-pub rollback-requires : goal.rollback-requires
-rollback-requires g c =
-    let h : FnOnceReturnsAtMut g.F.FnOnce c.args.step c.args.self.now.diagram c.step.result c.step.new.arg2 =
-    search rules in
-    (settled_full _ _ c.step.result (c.requires.gives _ _ h) c.in-Err.is).0
+pub attempt-requires : goal.attempt-requires
+attempt-requires g c =
+    λ κs. (
+      search rules,
+      record {
+        may = c.requires.takes;
+        ends = λ m t h. may_undo c.args.self.now t m (c.requires.gives m t h);
+      },
+    )
 
 pub returns-in-Ok : goal.returns-in-Ok
-returns-in-Ok g c =
-    let h : FnOnceReturnsAtMut g.F.FnOnce c.args.step c.args.self.now.diagram c.step.result c.step.new.arg2 =
-    search rules in
-    settled _ c.args.self.now.registers.all c.args.d c.step.result (c.requires.gives _ _ h) c.in-Ok.is (search rules)
+returns-in-Ok g c = attempt_edge c.args.self.now c.args.d c.requires.gives c.attempt.ensures c.in-Ok.is (search rules)

@@ -9,8 +9,10 @@ loop-b-preserved g c =
 
 pub returns-in_err-step-clause-feeds : goal.returns-in_err-step-clause-feeds
 returns-in_err-step-clause-feeds g c =
-    let p = err_from_is_err_and c.from_residual.result c.from_residual.ensures.1 in
+    let p = err_from_is_err_and c.from_residual-in_err-step.result c.from_residual-in_err-step.ensures.1 in
     rw p.1 (feed_lost _ (search rules) c.loop-b.invariant.0 c.in_err-step.was c.step.ensures.takes)
 
-pub returns-then-lost-clause-feeds : goal.returns-then-lost-clause-feeds
-returns-then-lost-clause-feeds g c = search (rules, feed_stays)
+pub returns-in_err-may_run-clause-feeds : goal.returns-in_err-may_run-clause-feeds
+returns-in_err-may_run-clause-feeds g c =
+    let p = err_from_is_err_and c.from_residual.result c.from_residual.ensures.1 in
+    rw p.1 (feed_stays c.may_run.ensures c.in_err-may_run.was c.requires)

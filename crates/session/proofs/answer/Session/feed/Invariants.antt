@@ -6,6 +6,6 @@ use Rattle.session.proofs.answer.Session.feed.Given as goal
 abbrev pub invariant-loop-b : goal.invariant-loop-b
 invariant-loop-b g l =
     FeedEnsures (take l.b-index l.part) (memory_of l.initial.self)
-    (state_of l.initial.self (g.W.Output.outcomes l.initial.output)) (memory_of l.self)
-    (state_of l.self (g.W.Output.outcomes l.output)) (Ok tt)
+    (state_of g.W.Output.outcomes l.initial.self) (memory_of l.self)
+    (state_of g.W.Output.outcomes l.self) (Ok tt)
     × KeepsSession l.initial.self l.self

@@ -1,3 +1,4 @@
+-- The step is its operation (the same in add, cont, lower, lower_set and apply, whose goals differ in their names).
 use borrow.Author.Rules.{rules}
 use Rattle.text.specs.EngineLaws.{sets_by_cached}
 use Rattle.text.proofs.engine.Engine.lower_set.Goals as goal

@@ -1,21 +1,16 @@
 use borrow.Author.Rules.{rules}
-use Rattle.text.specs.EngineLaws.{keeps_loans_then}
+use Rattle.text.specs.EngineLaws.{attempt_loans, attempt_full, attempt_edge}
 use Rattle.text.proofs.engine.Engine.set.Goals as goal
 
-pub settle-requires : goal.settle-requires
-settle-requires g c =
-    ((c.requires.1.1.ends c.step-made.result c.step-made.new.arg2 (search rules)).1, c.requires.1.0)
+pub returns-in_default-clause-loans : goal.returns-in_default-clause-loans
+returns-in_default-clause-loans g c =
+    let kept = attempt_loans c.attempt.ensures c.requires.1.1 in search (rules, kept)
+
+pub returns-in_default-clause-sets : goal.returns-in_default-clause-sets
+returns-in_default-clause-sets g c = attempt_full c.attempt.ensures (search rules) (search rules) (search rules)
 
 pub returns-clause-loans : goal.returns-clause-loans
-returns-clause-loans g c =
-    let kept = (c.requires.1.1.ends c.step-made.result c.step-made.new.arg2 (search rules)).0 in
-    let loans = c.settle.ensures.loans in
-    record { same_diagram = loans.same_diagram; loans = keeps_loans_then kept loans.loans }
+returns-clause-loans g c = let kept = attempt_loans c.attempt.ensures c.requires.1.1 in search (rules, kept)
 
 pub returns-clause-sets : goal.returns-clause-sets
-returns-clause-sets g c = record {
-  made = c.step-made.result;
-  left = c.step-made.new.arg2;
-  met = search rules;
-  settles = c.settle.ensures.settles;
-}
+returns-clause-sets g c = attempt_edge c.attempt.ensures (search rules) c.in-Ok.is (search rules) (search rules)

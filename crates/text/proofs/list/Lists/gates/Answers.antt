@@ -12,7 +12,7 @@ gate-requires c =
       search rules,
       (
         rw (k.same_text, k.same_qubits) (gates_loop_gate g c.requires.1.0 (search rules) refl),
-        (search rules, search rules),
+        search rules,
       ),
     )
 
