@@ -14,12 +14,11 @@ use Rattle.diagram.specs.MeaningLaws.{valid_more}
 use Rattle.diagram.specs.StoreLaws.{tensor_kept, kept_after, refines_count}
 use Rattle.diagram.specs.BuildLaws.{constant_valid, constant_tensor}
 use Rattle.diagram.specs.CacheLaws.{remembers_more, remembers_nothing}
-use Rattle.diagram.specs.Restore.{RollbackEnsures}
+use Rattle.diagram.specs.Restore.{RollbackRequires, RollbackEnsures}
+use Rattle.diagram.specs.RestoreLaws.{rollback_of}
 use Rattle.diagram.specs.declared.node.Edge.{Edge}
 use Rattle.diagram.specs.declared.diagram.Diagram.{Diagram}
 use Rattle.diagram.specs.declared.diagram.Full.{Full}
-use Rattle.diagram.specs.Restore.{RollbackRequires}
-use Rattle.diagram.specs.RestoreLaws.{rollback_of}
 use Rattle.fill.specs.Fill.{FillInvariant, constant_edge, LeafEnsures, NodesGrown, NodesSame, PairEnsures}
 
 -- a leaf joins two constants

@@ -2,54 +2,21 @@
 use Rattle.std.specs.Prelude.{◌≡◌, refl, ◌≢◌, Bool, true, false, List, [], ◌∷◌, ◌++◌, ℕ, ◌+◌, ◌-◌, ◌≤◌, ◌<◌}
 use Rattle.std.specs.Prelude.{length, take, drop, get_or, is_err, ⊤, Result, Ok, Err}
 use Rattle.std.proofs.lemmas.Bool.{false≢true}
-use Rattle.std.proofs.Common.{sym, ◌∙◌, append-nil, append_assoc, add-one, arith, le-leb, length-append}
+use Rattle.std.proofs.Common.{sym, ◌∙◌, append-nil, append_assoc, add-one, arith, length-append}
 use Rattle.std.proofs.Common.{take-suc, length-take-le, take-append-drop}
-use Rattle.diagram.specs.Node.{capacity}
 use Rattle.text.specs.Text.{Bytes, LF, lines}
-use Rattle.text.specs.Answer.{printed}
-use Rattle.text.specs.Session.{at_most, empty_run, with_answer, run}
 use Rattle.text.specs.Squeeze.{squeezed, NoneEnsures, PushEnsures}
-use Rattle.text.specs.Engine.{Contents, tally_of, EngineStartEnsures}
-use Rattle.text.specs.SessionLaws.{run_append}
+use Rattle.text.specs.Engine.{Contents}
 use Rattle.text.specs.declared.squeeze.Squeeze.{Squeeze}
-use Rattle.session.specs.Answer.{Memory, memory, SessionState, none, reply_to, AnswerEnsures}
+use Rattle.session.specs.Answer.{Memory, memory, SessionState, none, AnswerEnsures}
 use Rattle.session.specs.AnswerLaws.{line_first}
-use Rattle.session.specs.FeedLinesLaws.{no_LF_more, line_kept, line_none}
-use Rattle.session.specs.Feed.{AfterLines, AfterLinesBefore, FeedRequires, FeedInvariant}
+use Rattle.session.specs.FeedLinesLaws.{no_LF_more, line_kept, line_none, after_more}
+use Rattle.session.specs.Feed.{AfterLinesBefore, FeedRequires, FeedInvariant}
 use Rattle.session.specs.Feed.{TakesIn, NothingFed, FeedEnsures, LastEnsures}
 use Rattle.session.specs.Output.{any_lost, PutEnsures}
 use Rattle.session.specs.OutputLaws.{written_open, no_write, put_written, put_lost, put_each}
 use Rattle.session.specs.OutputLaws.{written_then, lost_then}
 use Rattle.session.specs.declared.output.WriteFailed.{WriteFailed}
-use Rattle.text.specs.Limits.{answer_room}
-
--- lines that were run
-
-pub after_none : {s₀ c s : List ℕ} {e : Contents} → EngineStartEnsures c s₀ s e → AfterLines [] s e
-unfolding run empty_run
-after_none a = record { output = []; is = λ room h. rw a.is }
-
-pub after_more : {ls : List Bytes} {s s' : List ℕ} {e n : Contents} (l : Bytes) → length s' ≡ length s
-    → AfterLines ls s e
-    → tally_of s' n ≡ (reply_to l s e).1
-    → AfterLines (ls ++ (l ∷ [])) s' n
-unfolding run with_answer
-after_more {ls} {s} {s'} {e} {n} l k r t = record {
-  output = r.output ++ printed (reply_to l s e).0;
-  is = λ room h.
-      let w : length r.output + answer_room ≤ room = omega
-      (arith, length-append r.output (printed (reply_to l s e).0)) in
-      rw (
-        k,
-        t,
-        run_append (at_most (capacity s)) room ls (l ∷ []) empty_run,
-        r.is room w,
-        le-leb _ _ w,
-        length-append ls
-            (l ∷ []),
-        add-one (length ls),
-      );
-}
 
 -- behind the lines that were run, more bytes
 abbrev before_more : {text : Bytes} {s : List ℕ} {e : Contents} (more : Bytes) → AfterLinesBefore text s e

@@ -10,7 +10,8 @@ use Rattle.text.specs.Engine.{Contents, EngineStartEnsures}
 use Rattle.text.specs.declared.squeeze.Squeeze.{Squeeze}
 use Rattle.session.specs.Answer.{Memory, SessionState, none}
 use Rattle.session.specs.Feed.{FeedRequires, FeedInvariant, TakesIn}
-use Rattle.session.specs.FeedLaws.{after_none, takes_none, takes_then}
+use Rattle.session.specs.FeedLinesLaws.{after_none}
+use Rattle.session.specs.FeedLaws.{takes_none, takes_then}
 use Rattle.session.specs.OutputLaws.{nothing_lost}
 use Rattle.session.specs.Input.{TakeEnsures, ReadEnsures, InputInvariant, Received, ReceiveEnsures, ReceiveLoop}
 use Rattle.session.specs.Input.{writing_of, Taken}

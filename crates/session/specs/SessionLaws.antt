@@ -6,10 +6,10 @@ use Rattle.std.proofs.KnownBytes.{Consumes-whole}
 use Rattle.text.specs.Text.{Bytes}
 use Rattle.text.specs.Engine.{Contents}
 use Rattle.session.specs.Answer.{Memory, SessionState}
-use Rattle.session.specs.Feed.{FeedRequires, FeedInvariant}
+use Rattle.session.specs.Feed.{FeedInvariant}
 use Rattle.session.specs.Input.{writing_of, Received, ReceiveEnsures, Taken}
 use Rattle.session.specs.InputLaws.{session_start, taken_received}
-use Rattle.session.specs.Outcome.{AfterInput, FinishRequires, FinishEnsures}
+use Rattle.session.specs.Outcome.{AfterInput, FinishEnsures}
 use Rattle.session.specs.OutcomeLaws.{lost_before}
 use Rattle.session.specs.OutputLaws.{all_each}
 use Rattle.session.specs.Session.{SessionEnsures, RunsWhole}

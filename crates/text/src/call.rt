@@ -30,7 +30,7 @@ pub enum Refusal {
 }
 
 impl Refusal {
-    // (`as`: an enum's number has no From.)
+    // (`as`: an enum's number has no From. `Fault` has this too, check.rt: a trait for two lines would be no plainer.)
     pub fn number(self) -> usize
         ensures { (result ≡ refusal_number self) × (result ≤ last_weight) }
     {
@@ -194,7 +194,7 @@ fn lows(d: RegisterNumber, a: RegisterNumber, m: Mask) -> Result<Call, Refusal>
 }
 
 // The call of a word, other than `gate`, with these numbers.
-fn counted(word: Word, args: Args) -> Result<Call, Refusal>
+fn with_numbers(word: Word, args: Args) -> Result<Call, Refusal>
     ensures { result ≡ call_of word args }
 {
     match (word, args) {
@@ -219,5 +219,5 @@ pub fn make(word: Option<Word>, args: Option<Args>) -> Result<Call, Refusal>
 {
     let word = word.ok_or(Refusal::Malformed)?;
     let args = args.ok_or(Refusal::Malformed)?;
-    counted(word, args)
+    with_numbers(word, args)
 }
