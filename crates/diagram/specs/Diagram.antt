@@ -49,9 +49,10 @@ Joinable d k l h = JoinRequires d.store.now d.state k l h
 abbrev pub MaskOfJoin : Diagram → ℕ → Edge → Edge → ℕ → Type 0
 MaskOfJoin d k l h r = NodeMaskEnsures d.store.now d.state k l h r
 
--- the store and the cache are the ones that were lent
+-- the store and the cache are the ones that were lent, and as long as before
 pub record KeepsLoans (d d' : Diagram) : Type 0 where
   pub long : length d'.store.now ≡ length d.store.now
+  pub cache_long : length d'.cache.now ≡ length d.cache.now
   pub same_store : d'.store.ghost_name ≡ d.store.ghost_name
   pub same_cache : d'.cache.ghost_name ≡ d.cache.ghost_name
 

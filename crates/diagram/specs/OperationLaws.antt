@@ -133,3 +133,8 @@ cached_kept {s = s} {s' = s'} {st = st} {t} {e = e} {k} {f} g q p r v d w =
           }
           w;
     }
+
+-- of a step that did not fit nothing is remembered
+pub cached_kept_full : {c' c'' s s' : List ℕ} {st t : State} {f : Step indices} {x : Full}
+    → RefinesCached c' s s' st t f (Err x) → c'' ≡ c' → RefinesCached c'' s s' st t f (Err x)
+cached_kept_full d w = record { step = d.step; cache = rw w d.cache }

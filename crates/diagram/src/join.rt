@@ -26,7 +26,8 @@ impl<'a> Diagram<'a> {
         ensures cache { KeepsCache self.old self.new }
         ensures does { Does self.old self.new (joins k (tensor self.old l) (tensor self.old h)) result }
     {
-        if l == h {
+        let equal = l == h;
+        if equal {
             return Ok(l);
         }
         let mask = self.node_mask(k, l, h);

@@ -25,7 +25,7 @@ impl<'a> Diagram<'a> {
     // A diagram in this store, with this cache. Of its nodes nothing is known before `start`.
     pub fn over(store: &'a mut [u8], cache: &'a mut [u64]) -> Diagram<'a>
         ensures store { (result.store.ghost_name ≡ store.entry.ghost_name) × (result.store.now ≡ store.old) }
-        ensures cache { result.cache.ghost_name ≡ cache.entry.ghost_name }
+        ensures cache { (result.cache.ghost_name ≡ cache.entry.ghost_name) × (result.cache.now ≡ cache.old) }
     {
         Diagram {
             store,

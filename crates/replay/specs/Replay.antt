@@ -3,7 +3,7 @@ use Rattle.std.specs.Prelude.{List, ℕ, Result, MatchResult, Some, set}
 use Rattle.diagram.specs.Registers.{Register, empty_register, RegistersValid}
 use Rattle.diagram.specs.Restore.{RollbackRequires}
 use Rattle.diagram.specs.Invariant.{Invariant}
-use Rattle.diagram.specs.Diagram.{IsSound}
+use Rattle.diagram.specs.Diagram.{IsSound, KeepsLoans}
 use Rattle.diagram.specs.declared.node.Edge.{Edge}
 use Rattle.diagram.specs.declared.make.State.{State}
 use Rattle.diagram.specs.declared.diagram.Diagram.{Diagram}
@@ -26,8 +26,13 @@ abbrev pub MaySettleIn : List ℕ → List ℕ → State → State → List Regi
 MaySettleIn c s t st rs m = MatchResult m (λ e. (i : ℕ) → Invariant c s t (set rs i (Some e)))
     (λ _. RollbackRequires c s st × RegistersValid st.count rs)
 
+-- .. and it has kept store and cache
 abbrev pub MaySet : Replay → Diagram → Result Edge Full → Type 0
-MaySet r d m = MaySettleIn d.cache.now d.store.now d.state r.diagram.state r.registers.all m
+MaySet r d m = KeepsLoans r.diagram d × MaySettleIn d.cache.now d.store.now d.state r.diagram.state r.registers.all m
+
+-- the diagram is over the slices that were lent
+abbrev pub KeepsReplay : Replay → Replay → Type 0
+KeepsReplay r r' = KeepsLoans r.diagram r'.diagram
 
 -- registers 0, 1 and 2 emptied, with which the second part of the replay starts
 abbrev pub cleared : List Register → List Register

@@ -1,5 +1,5 @@
 // The session calls that the program makes. A call that does not fit says so and leaves nothing.
-ghost use Rattle.std.specs.Prelude.{◌≤◌, ◌<◌, Result};
+ghost use Rattle.std.specs.Prelude.{◌≡◌, ◌≤◌, ◌<◌, length, Result};
 ghost use Rattle.std.specs.Fn.{FnOnceTakesAtMut, FnOnceReturnsAtMut};
 ghost use Rattle.diagram.specs.Tensor.{masks};
 ghost use Rattle.diagram.specs.Entry.{QubitsInRange};
@@ -7,7 +7,7 @@ ghost use Rattle.diagram.specs.Diagram.{IsEdge, MayLower};
 ghost use Rattle.diagram.specs.declared.node.Edge as edge;
 ghost use Rattle.diagram.specs.declared.diagram.Diagram as diagrams;
 ghost use Rattle.diagram.specs.declared.diagram.Full as full;
-ghost use Rattle.replay.specs.Replay.{IsReplay, MaySet};
+ghost use Rattle.replay.specs.Replay.{IsReplay, KeepsReplay, MaySet};
 
 use diagram::diagram::{Diagram, Full};
 use diagram::gate::{Gate, QubitCount};
@@ -27,7 +27,11 @@ pub struct Replay<'a> {
 impl<'a> Replay<'a> {
     // No nodes, and empty registers.
     pub fn start(stdout: Stdout, store: &'a mut [u8], cache: &'a mut [u64]) -> Replay<'a>
-        ensures { IsReplay result }
+        ensures store { result.diagram.store.ghost_name ≡ store.entry.ghost_name }
+        ensures cache { result.diagram.cache.ghost_name ≡ cache.entry.ghost_name }
+        ensures store_long { length result.diagram.store.now ≡ length store.old }
+        ensures cache_long { length result.diagram.cache.now ≡ length cache.old }
+        ensures replay { IsReplay result }
     {
         let mut diagram = Diagram::over(store, cache);
         diagram.start();
@@ -44,7 +48,8 @@ impl<'a> Replay<'a> {
         requires takes { FnOnceTakesAtMut F.FnOnce step self.old.diagram }
         requires gives { (m : Result edge.Edge full.Full) (t : diagrams.Diagram) →
             FnOnceReturnsAtMut F.FnOnce step self.old.diagram m t → MaySet self.old t m }
-        ensures { IsReplay self.new }
+        ensures loans { KeepsReplay self.old self.new }
+        ensures replay { IsReplay self.new }
     {
         match self.diagram.attempt(step) {
             Ok(e) => self.registers.put(d, e),
@@ -55,7 +60,8 @@ impl<'a> Replay<'a> {
     // Register d is a gate.
     pub fn gate(&mut self, d: RegisterNumber, g: Gate)
         requires { IsReplay self.old × (QubitsInRange g × (d < 16)) }
-        ensures { IsReplay self.new }
+        ensures loans { KeepsReplay self.old self.new }
+        ensures replay { IsReplay self.new }
     {
         self.set(d, |diagram| diagram.gate(g));
     }
@@ -64,7 +70,8 @@ impl<'a> Replay<'a> {
     fn multiply(&mut self, d: RegisterNumber, a: Edge, b: Edge, m: Mask)
         requires { IsReplay self.old ×
             (IsEdge self.old.diagram a × (IsEdge self.old.diagram b × ((d < 16) × (m < masks)))) }
-        ensures { IsReplay self.new }
+        ensures loans { KeepsReplay self.old self.new }
+        ensures replay { IsReplay self.new }
     {
         self.set(d, |diagram| diagram.contract(a, b, m));
     }
@@ -72,7 +79,8 @@ impl<'a> Replay<'a> {
     // Register d is the product of registers 0 and 1, if they are filled.
     pub fn cont(&mut self, d: RegisterNumber, m: Mask)
         requires { IsReplay self.old × ((d < 16) × (m < masks)) }
-        ensures { IsReplay self.new }
+        ensures loans { KeepsReplay self.old self.new }
+        ensures replay { IsReplay self.new }
     {
         let Some(a) = self.registers.get(0) else {
             return;
@@ -86,7 +94,8 @@ impl<'a> Replay<'a> {
     // Of the nodes only those stay that the registers reach.
     pub fn collect(&mut self)
         requires { IsReplay self.old }
-        ensures { IsReplay self.new }
+        ensures loans { KeepsReplay self.old self.new }
+        ensures replay { IsReplay self.new }
     {
         self.diagram.collect(&mut self.registers);
     }
@@ -94,7 +103,8 @@ impl<'a> Replay<'a> {
     // Register 0 is the unit on n qubits.
     pub fn unit(&mut self, n: QubitCount)
         requires { IsReplay self.old × (n ≤ 8) }
-        ensures { IsReplay self.new }
+        ensures loans { KeepsReplay self.old self.new }
+        ensures replay { IsReplay self.new }
     {
         self.set(0, |diagram| diagram.unit(n));
     }
@@ -102,7 +112,8 @@ impl<'a> Replay<'a> {
     // Register 0 is an edge's tensor with index k renamed k - 1.
     fn lower(&mut self, a: Edge, k: Index)
         requires { IsReplay self.old × (IsEdge self.old.diagram a × MayLower self.old.diagram a k) }
-        ensures { IsReplay self.new }
+        ensures loans { KeepsReplay self.old self.new }
+        ensures replay { IsReplay self.new }
     {
         self.set(0, |diagram| diagram.lower(a, k));
     }
@@ -110,7 +121,8 @@ impl<'a> Replay<'a> {
     // The same for what register 0 holds, where that does not depend on k - 1.
     pub fn low(&mut self, k: Index)
         requires { IsReplay self.old × ((1 ≤ k) × (k ≤ 23)) }
-        ensures { IsReplay self.new }
+        ensures loans { KeepsReplay self.old self.new }
+        ensures replay { IsReplay self.new }
     {
         let Some(a) = self.registers.get(0) else {
             return;

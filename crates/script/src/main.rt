@@ -10,36 +10,40 @@
 mod header;
 mod run;
 
-use std::io;
-use std::io::{BufReader, ErrorKind};
+use stdin::parts::Parts;
 
-// 2048 nodes of 16 bytes. (Each program says for itself what memory it has.)
+// The longest text of a session, with its first line. (Each program says for itself what memory it has.)
+const TEXT: usize = 8192;
+
+// 2048 nodes of 16 bytes.
 const STORE: usize = 32768;
 
 // 1024 remembered results of four words.
 const CACHE: usize = 4096;
 
-fn main(rt: HostRuntime) -> io::Result<()> {
+// How many bytes are read at once.
+const PART: usize = 4096;
+
+fn main(rt: HostRuntime) {
     let stdout = rt.stdout();
-    let mut input = BufReader::new(rt.alloc(), rt.stdin())?;
-    let mut text = Vec::new(rt.alloc());
+    let mut part = [0u8; PART];
+    let mut text = [0u8; TEXT];
     let mut store = [0u8; STORE];
     let mut cache = [0u64; CACHE];
+    let mut input = Parts::over(rt.stdin(), &mut part);
     let mut cached = true;
     // A proved loop has to end, and nothing says that an input does: no run uses this count up. (`texts`, `script` and
     // `cases` have this loop each: one for the three would take a closure that borrows what each works with, and be no
     // plainer.)
     for _ in 0..u64::MAX {
+        // A read that fails counts as the input's end, and a last part without its byte 0 is no session.
+        let Ok(Some(len)) = input.read_text(0, &mut text) else {
+            break;
+        };
         // The store and the cache go on from session to session as they are left. Every other session is lent a cache
         // of no words.
         let lent = if cached { CACHE } else { 0 };
-        match stdin::read_text(&mut input, 0, &mut text) {
-            Ok(true) => run::run(stdout, &text, &mut store, &mut cache[..lent]),
-            Err(e) if e.kind() == ErrorKind::OutOfMemory => return Err(e),
-            // A read that fails counts as the input's end, and a last part without its byte 0 is no session.
-            _ => break,
-        }
+        run::run(stdout, text.get(..len), &mut store, &mut cache[..lent]);
         cached = !cached;
     }
-    Ok(())
 }

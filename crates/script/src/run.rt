@@ -4,9 +4,6 @@ use crate::header::Header;
 use std::io::{Print, Stdout};
 use text::{session, split};
 
-// The longest text of a session, with its first line.
-const TEXT: usize = 8192;
-
 // The longest output.
 const OUTPUT: usize = 4096;
 
@@ -23,16 +20,16 @@ fn answer(stdout: Stdout, text: &[u8], store: &mut [u8], cache: &mut [u64], out:
     println!(stdout; "=\t{}\t{}\t{}\t{}", r.code, r.lines, r.bytes, r.count).unwrap_or(());
 }
 
-// The session is lent the first bytes of the store and of the output.
-pub fn run(stdout: Stdout, text: &[u8], store: &mut [u8], cache: &mut [u64]) {
-    if TEXT < text.len() {
-        return println!(stdout; "too long").unwrap_or(());
-    }
+// A text that is longer than the buffer is not run. The session is lent the first bytes of the store and of the output.
+pub fn run(stdout: Stdout, text: Option<&[u8]>, store: &mut [u8], cache: &mut [u64]) {
+    let Some(text) = text else {
+        return stdout.write_all(b"too long\n").unwrap_or(());
+    };
     let Some((Header { capacity, room }, text)) = parts(text) else {
-        return println!(stdout; "bad header").unwrap_or(());
+        return stdout.write_all(b"bad header\n").unwrap_or(());
     };
     if store.len() / 16 < capacity || OUTPUT < room {
-        return println!(stdout; "bad header").unwrap_or(());
+        return stdout.write_all(b"bad header\n").unwrap_or(());
     }
     let mut out = [0u8; OUTPUT];
     answer(

@@ -7,7 +7,8 @@ use Rattle.text.specs.Line.{read_line}
 use Rattle.text.specs.Answer.{printed}
 use Rattle.text.specs.Session.{at_most, TallyReply, answer_read}
 use Rattle.text.specs.Squeeze.{SqueezeFits, SqueezeInvariant}
-use Rattle.text.specs.Engine.{Contents, contents, tally_of, EngineInvariant, KeepsEngine}
+use Rattle.text.specs.Engine.{contents, tally_of, EngineInvariant, KeepsEngine}
+use Rattle.text.specs.declared.engine.Contents.{Contents}
 use Rattle.text.specs.declared.progress.Progress.{Progress}
 use Rattle.text.specs.declared.squeeze.Squeeze.{Squeeze}
 use Rattle.text.specs.Limits.{line_room}

@@ -11,7 +11,8 @@ use Rattle.text.specs.Text.{Bytes, LF, tab, onto, parts, lines}
 use Rattle.text.specs.Answer.{printed}
 use Rattle.text.specs.Session.{at_most, TallyRun, with_answer, run}
 use Rattle.text.specs.Squeeze.{squeezed_from, squeezed, SqueezeFits, SqueezeInvariant}
-use Rattle.text.specs.Engine.{Contents, tally_of}
+use Rattle.text.specs.Engine.{tally_of}
+use Rattle.text.specs.declared.engine.Contents.{Contents}
 use Rattle.text.specs.Progress.{RunState, run_from, ResumeEnsures}
 use Rattle.text.specs.SqueezeReadLaws.{read_line_squeezed}
 use Rattle.text.specs.AgreesLaws.{printed_front, printed_within}

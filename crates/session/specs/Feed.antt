@@ -5,7 +5,8 @@ use Rattle.diagram.specs.Node.{capacity}
 use Rattle.text.specs.Text.{Bytes, lines}
 use Rattle.text.specs.Session.{at_most, empty_run, run}
 use Rattle.text.specs.Squeeze.{SqueezeInvariant}
-use Rattle.text.specs.Engine.{Contents, tally_of}
+use Rattle.text.specs.Engine.{tally_of}
+use Rattle.text.specs.declared.engine.Contents.{Contents}
 use Rattle.text.specs.declared.squeeze.Squeeze.{Squeeze}
 use Rattle.session.specs.Answer.{Memory, SessionState, AnswerRequires, NoLf}
 use Rattle.session.specs.Output.{all_written, any_lost, LastLost, OneWriteEach}

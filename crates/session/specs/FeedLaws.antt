@@ -6,7 +6,7 @@ use Rattle.std.proofs.Common.{sym, ◌∙◌, append-nil, append_assoc, add-one,
 use Rattle.std.proofs.Common.{take-suc, length-take-le, take-append-drop}
 use Rattle.text.specs.Text.{Bytes, LF, lines}
 use Rattle.text.specs.Squeeze.{squeezed, NoneEnsures, PushEnsures}
-use Rattle.text.specs.Engine.{Contents}
+use Rattle.text.specs.declared.engine.Contents.{Contents}
 use Rattle.text.specs.declared.squeeze.Squeeze.{Squeeze}
 use Rattle.session.specs.Answer.{Memory, memory, SessionState, none, AnswerEnsures}
 use Rattle.session.specs.AnswerLaws.{line_first}

@@ -9,7 +9,8 @@ use Rattle.text.specs.Limits.{answer_room}
 use Rattle.text.specs.Session.{at_most, empty_run, with_answer, run}
 use Rattle.text.specs.SessionLaws.{run_append}
 use Rattle.text.specs.Squeeze.{squeezed_from, squeezed}
-use Rattle.text.specs.Engine.{Contents, tally_of, EngineStartEnsures}
+use Rattle.text.specs.Engine.{tally_of, EngineStartEnsures}
+use Rattle.text.specs.declared.engine.Contents.{Contents}
 use Rattle.session.specs.Answer.{NoLf, none, byte, reply_to}
 use Rattle.session.specs.Feed.{AfterLines}
 

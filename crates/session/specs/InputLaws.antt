@@ -6,7 +6,8 @@ use Rattle.std.proofs.KnownBytes.{Consumes-nil, Consumes-trans}
 use Rattle.stdin.specs.Star.{none as noSteps, more}
 use Rattle.text.specs.Text.{Bytes}
 use Rattle.text.specs.Squeeze.{NoneEnsures}
-use Rattle.text.specs.Engine.{Contents, EngineStartEnsures}
+use Rattle.text.specs.Engine.{EngineStartEnsures}
+use Rattle.text.specs.declared.engine.Contents.{Contents}
 use Rattle.text.specs.declared.squeeze.Squeeze.{Squeeze}
 use Rattle.session.specs.Answer.{Memory, SessionState, none}
 use Rattle.session.specs.Feed.{FeedRequires, FeedInvariant, TakesIn}

@@ -1,7 +1,7 @@
 -- How a session ends: what was run of its input.
 use Rattle.std.specs.Prelude.{◌≡◌, ◌≢◌, Bool, true, List, [], ℕ, ◌-◌, length, codes, ⊤, Result, Ok, Err}
 use Rattle.text.specs.Text.{Bytes, lines}
-use Rattle.text.specs.Engine.{Contents}
+use Rattle.text.specs.declared.engine.Contents.{Contents}
 use Rattle.session.specs.Answer.{Memory, SessionState}
 use Rattle.session.specs.Feed.{AfterLines, AfterFirstLines, AfterEndedLines, FeedRequires, FeedInvariant}
 use Rattle.session.specs.Output.{all_written, any_lost, LastLost, OneWriteEach}

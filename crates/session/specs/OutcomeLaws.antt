@@ -2,7 +2,7 @@
 use Rattle.std.specs.Prelude.{◌≡◌, refl, Bool, List, [], ◌++◌, ℕ, ◌≤◌, length, ⊤, Result, Ok, Err}
 use Rattle.std.proofs.Common.{sym, append-nil, length-append, arith}
 use Rattle.text.specs.Text.{Bytes, lines}
-use Rattle.text.specs.Engine.{Contents}
+use Rattle.text.specs.declared.engine.Contents.{Contents}
 use Rattle.session.specs.Answer.{Memory, SessionState}
 use Rattle.session.specs.Feed.{AfterLines, AfterLinesBefore, FeedInvariant, LastEnsures}
 use Rattle.session.specs.Output.{LastLost}

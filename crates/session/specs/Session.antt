@@ -2,7 +2,7 @@
 use Rattle.std.specs.Prelude.{◌≡◌, Bool, List, [], ℕ, ⊤, Option, IfSome, Result, Ok, Err}
 use Rattle.std.specs.Io.KnownBytes.{Consumes}
 use Rattle.text.specs.Text.{Bytes}
-use Rattle.text.specs.Engine.{Contents}
+use Rattle.text.specs.declared.engine.Contents.{Contents}
 use Rattle.session.specs.Answer.{Memory, SessionState}
 use Rattle.session.specs.Feed.{FeedInvariant}
 use Rattle.session.specs.Input.{Reads}

@@ -4,7 +4,7 @@ use Rattle.std.specs.Io.KnownBytes.{Consumes, IsAtEnd}
 use Rattle.std.proofs.Common.{arith}
 use Rattle.std.proofs.KnownBytes.{Consumes-whole}
 use Rattle.text.specs.Text.{Bytes}
-use Rattle.text.specs.Engine.{Contents}
+use Rattle.text.specs.declared.engine.Contents.{Contents}
 use Rattle.session.specs.Answer.{Memory, SessionState}
 use Rattle.session.specs.Feed.{FeedInvariant}
 use Rattle.session.specs.Input.{writing_of, Received, ReceiveEnsures, Taken}

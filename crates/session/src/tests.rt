@@ -1,5 +1,5 @@
-// What a session does where a write fails.
-ghost use Rattle.std.specs.Prelude.{◌≡◌, [], ◌≤◌, length};
+// What a session does where a write fails, and that what was lent is as long as before.
+ghost use Rattle.std.specs.Prelude.{◌≡◌, [], ◌<◌, ◌≤◌, length};
 ghost use Rattle.session.specs.Output.{recorded};
 ghost use Rattle.text.specs.Limits.{line_room};
 
@@ -48,6 +48,15 @@ impl Output for OneWrite {
     }
 }
 
+// The cache that was lent is as long as before a start and a run: it still has its first word.
+fn first_word(engine: &mut Engine, out: &mut [u8]) -> u64
+    requires { 0 < length engine.old.diagram.now.cache.now }
+{
+    engine.start();
+    engine.resume(b"unit\t0\t1\n", out, 1);
+    engine.diagram.cache[0]
+}
+
 // Three lines, and then a fourth one; whether a failed write was said of both parts.
 fn feed_twice<'l, 'b, 'a>(
     line: &'l mut [u8],
@@ -85,5 +94,21 @@ fn no_line_after_a_failed_write(rt: HostRuntime) -> Result<(), Fail> {
     assert!(rt; engine.registers.get(1).is_some());
     assert!(rt; engine.registers.get(2).is_none());
     assert!(rt; engine.registers.get(3).is_none());
+    Ok(())
+}
+
+#[test]
+fn cache_as_long_as_before(rt: HostRuntime) -> Result<(), Fail> {
+    let mut store = [0u8; 1024];
+    let mut cache = [0u64; 64];
+    let mut out = [0u8; 64];
+    let mut diagram = Diagram::over(&mut store, &mut cache);
+    let mut engine = Engine {
+        diagram: &mut diagram,
+        registers: Registers::empty(),
+    };
+    // `unit` remembers nothing.
+    assert_eq!(rt; first_word(&mut engine, &mut out), 0);
+    assert!(rt; engine.contents().registers.get(0).is_some());
     Ok(())
 }

@@ -1,13 +1,14 @@
 -- Laws of Call: what a call carries is in range.
 use Rattle.std.specs.Prelude.{◌≡◌, refl, Bool, true, false, cond, ◌&&◌, ◌≢◌, ℕ, ◌%◌, ◌≤◌, ◌<◌, leb, eqb, Result, Ok}
-use Rattle.std.specs.Prelude.{Err}
+use Rattle.std.specs.Prelude.{Err, Option}
 use Rattle.std.proofs.Common.{arith, leb-true, eq-eqb, ne_eqb}
 use Rattle.std.proofs.lemmas.Bool.{eqb-false}
 use Rattle.diagram.specs.Tensor.{bits, masks}
 use Rattle.text.specs.Limits.{last_register, register_count, last_index, last_mask, last_weight, most_qubits}
 use Rattle.text.specs.Args.{one_number, two_numbers, three_numbers, four_numbers}
 use Rattle.text.specs.Call.{check_register, check_range, check_lowered, malformed, Ranged, check_apart, call_of}
-use Rattle.text.specs.ArgsLaws.{by_count_lem}
+use Rattle.text.specs.Call.{known_call}
+use Rattle.text.specs.ArgsLaws.{by_count_lem, known_lem}
 use Rattle.text.specs.declared.call.Call.{Call}
 use Rattle.text.specs.declared.call.Refusal.{Refusal}
 use Rattle.text.specs.declared.call.Refusal.TheVariants.{Register, Range, Equal}
@@ -95,3 +96,7 @@ call_ranged word.Cmp args = on_two _ (λ a b. on_register a _ (λ p. on_register
 call_ranged word.On args = on_one _ (λ a. on_register a _ (λ p. p)) args
 call_ranged word.Lows args =
     on_three _ (λ d a m. on_register d _ (λ p. on_register a _ (λ q. on_lowered m _ (λ z h. (p, (q, (z, h))))))) args
+
+-- .. and of a word and numbers that were read, or were none
+pub known_ranged : (w : Option Word) (args : Option Args) → Ranged (known_call w args)
+known_ranged w args = known_lem Ranged _ _ tt (λ w. known_lem Ranged _ _ tt (call_ranged w) args) w

@@ -1,11 +1,12 @@
 -- The tally of a session stays complete.
 use mathlib.Core.List.{List, [], ◌∷◌}
-use Rattle.std.specs.Prelude.{Result, Ok as Read, Err as Refused}
+use Rattle.std.specs.Prelude.{Result, Ok as Read, Err as Refused, IfOk}
 use Rattle.std.proofs.Math.Option.{Option, none, some}
 use Rattle.std.specs.Prelude.{◌≡◌, refl, Bool, ◌||◌, cond, ℕ, ◌-◌, zero, suc, ◌+◌, get_or, length, leb}
 use Rattle.std.proofs.Common.{subst, sym, true≢false, arith}
 use Rattle.std.proofs.Math.Bool.{true, false}
 use Rattle.std.proofs.Math.ListN.{set}
+use Rattle.std.proofs.lemmas.Result.{IfOk-weaker}
 use Rattle.diagram.specs.Tensor.{Tensor, same, bits, constant, depends, indices, indices_count, index_count}
 use Rattle.diagram.specs.Tally.{Set, member, filled_tensors, collect, Step, sum, cont, low, build, keeps, return}
 use Rattle.diagram.specs.Sets.{PrefixOf}
@@ -25,7 +26,7 @@ use Rattle.diagram.specs.TallyLowsLaws.{lows_set_after}
 use Rattle.diagram.specs.Gate.{gate_tensor, unit_tensor}
 use Rattle.text.specs.Text.{Bytes}
 use Rattle.text.specs.Limits.{answer_room}
-use Rattle.text.specs.Call.{InRange, Ranged}
+use Rattle.text.specs.Call.{InRange}
 use Rattle.text.specs.Line.{read_line}
 use Rattle.text.specs.Session.{Capacity, fits, Tally, TallyReply, answer, answer_read, accept, refuse, settle}
 use Rattle.text.specs.Session.{with_tensor}
@@ -167,6 +168,12 @@ module _ {d : ℕ} (c : Capacity) (t : Tally d) (k : Complete t) where
       register_complete a _ (λ A p. unless_complete (clash (bits m) A) r (lows (bits m) A)
       (λ e. lows_set_after t.nodes (bits m) A))
 
+  -- .. and so does a line that was read; one that is refused leaves the tally as it was
+  pub read_complete : (x : Result Call Refusal) → IfOk x (LowBelow d) → Complete (answer_read c x t).1
+  unfolding refuse
+  read_complete (Read x) i = answer_complete x i
+  read_complete (Refused r) i = k
+
   -- "the set keeps exactly the normal multiples of the nonconstant tensors got from filled registers": a filter loses
   -- nothing that document 01 keeps
   pub collect_keeps_all : (x : Tensor d)
@@ -197,12 +204,9 @@ ranged_low_below (call.Lows r a m) h = tt
 
 module _ (c : Capacity) (room : ℕ) where
   line_complete : (l : Bytes) (t : Tally indices) → Complete t → Complete (answer_read c (read_line l) t).1
-  unfolding refuse
-  line_complete l t k = go (read_line l) (line_ranged l)
-    where
-      go : (x : Result Call Refusal) → Ranged x → Complete (answer_read c x t).1
-      go (Read x) h = answer_complete c t k x (rw indices_count (ranged_low_below x h))
-      go (Refused r) h = k
+  line_complete l t k =
+      read_complete c t k (read_line l)
+      (rw indices_count (IfOk-weaker (read_line l) InRange (LowBelow index_count) ranged_low_below (line_ranged l)))
 
   lines_complete : (ls : List Bytes) (r : TallyRun indices) → Complete r.tally → Complete (run c room ls r).tally
   unfolding run with_answer stopped_run

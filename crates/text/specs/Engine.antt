@@ -16,19 +16,15 @@ use Rattle.text.specs.Answer.{SmallAnswer}
 use Rattle.text.specs.Session.{Tally, empty_tally, at_most, settle}
 use Rattle.text.specs.Agrees.{Unchanged}
 use Rattle.text.specs.declared.engine.Engine.{Engine}
+use Rattle.text.specs.declared.engine.Contents.{Contents}
 use Rattle.text.specs.declared.call.Refusal.{Refusal}
 use Rattle.text.specs.declared.answer.Answer.{Answer}
 use Rattle.text.specs.declared.call.Refusal.TheVariants.{Full}
 use Rattle.diagram.specs.declared.make.State.{State}
-use Rattle.diagram.specs.declared.registers.Registers.{Registers}
 use Rattle.diagram.specs.declared.node.Edge.{Edge}
 use Rattle.diagram.specs.declared.diagram.Full as steps
 
 -- what an engine holds beside the bytes of its store and its cache
-pub record Contents : Type 0 where
-  pub state : State
-  pub registers : Registers
-
 abbrev pub contents : Engine → Contents
 contents e = record { state = e.diagram.now.state; registers = e.registers }
 
@@ -53,6 +49,11 @@ pub record EngineStartEnsures (c' s s' : List ℕ) (e : Contents) : Type 0 where
   pub long : length s' ≡ length s
   pub invariant : EngineInvariant c' s' e
   pub is : tally_of s' e ≡ empty_tally
+
+-- a refusal that has begun nothing: the engine is as it was, with its store and its cache
+pub record RefuseEnsures (e e' : Engine) (why : Refusal) (a : Result Answer Refusal) : Type 0 where
+  pub answer : a ≡ Err why
+  pub engine : e' ≡ e
 
 -- "a refused line changes no register and leaves no new node"
 abbrev pub RefusedUnchanged : List ℕ → List ℕ → Contents → Reply → Type 0

@@ -17,6 +17,7 @@ use Rattle.diagram.specs.Store.{set_of, tensor_of, RefinesEdge, nodes_of, Refine
 use Rattle.diagram.specs.StoreLaws.{set_length, refines_fits, refines_stays}
 use Rattle.diagram.specs.Operation.{RefinesCached}
 use Rattle.diagram.specs.Diagram.{KeepsLoans, Does, DoesCached}
+use Rattle.diagram.specs.AttemptLaws.{keeps_loans_then}
 use Rattle.text.specs.Engine.{SetsBy, Sets, IsEngine, MaySet}
 use Rattle.diagram.specs.Attempt.{Steps, UndoRequires, Attempts}
 use Rattle.text.specs.declared.engine.Engine.{Engine}
@@ -25,7 +26,8 @@ use Rattle.diagram.specs.Weights.{to_weight, modulus}
 use Rattle.diagram.specs.BuildLaws.{constant_valid, constant_tensor}
 use Rattle.text.specs.Session.{empty_tally, at_most, node_count, accept, settle, refuse}
 use Rattle.text.specs.Agrees.{Unchanged}
-use Rattle.text.specs.Engine.{Contents, Reply, tally_of, EngineStartEnsures, SetsRegister}
+use Rattle.text.specs.Engine.{Reply, tally_of, EngineStartEnsures, SetsRegister}
+use Rattle.text.specs.declared.engine.Contents.{Contents}
 use Rattle.text.specs.Engine.{SettleEnsures}
 use Rattle.text.specs.Engine.{EngineInvariant}
 use Rattle.diagram.specs.declared.node.Edge.{Edge}
@@ -158,14 +160,6 @@ module _ {c s c' s' : List ℕ} {e : Contents} {d : ℕ} {r : Reply} (p : Engine
             (ap (λ T. (T, set_of s e.state)) (sym (constant_tensor w p.sound)));
         cache = p.cache;
       })
-
--- the same loans after one step and another
-pub keeps_loans_then : {d d₁ d' : Diagram} → KeepsLoans d d₁ → KeepsLoans d₁ d' → KeepsLoans d d'
-keeps_loans_then k l = record {
-  long = l.long ∙ k.long;
-  same_store = l.same_store ∙ k.same_store;
-  same_cache = l.same_cache ∙ k.same_cache;
-}
 
 -- an attempt, of which it is known what it gave and left
 attempted_as : {F : Type 0} {g : Steps F} {step : F} {t u d' : Diagram} {m r : Result Edge steps.Full}

@@ -15,7 +15,8 @@ use Rattle.text.specs.Check.{TextRead, CheckedInRange}
 use Rattle.text.specs.Ruling.{Ruling, SmallRuling, RulingWritten, no_at}
 use Rattle.text.specs.VerdictSession.{comparison_of, perform, ruling_at_end, list_calls, session_calls}
 use Rattle.text.specs.VerdictSession.{ruling_of_reading, ruling_on, verdict_result}
-use Rattle.text.specs.Engine.{Contents, Reply, tally_of, EngineStartEnsures}
+use Rattle.text.specs.Engine.{Reply, tally_of, EngineStartEnsures}
+use Rattle.text.specs.declared.engine.Contents.{Contents}
 use Rattle.text.specs.Respond.{RespondEnsures}
 use Rattle.text.specs.Perform.{ruling_from}
 use Rattle.text.specs.List.{ListState, ruling_from_state, next_line, GateList, gate_list, GateLines, ListRequires}

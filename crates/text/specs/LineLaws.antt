@@ -10,12 +10,11 @@ use Rattle.text.specs.Gate.{gate_call_fields}
 use Rattle.text.specs.Line.{call_fields, read_line, LineRead}
 use Rattle.text.specs.Split.{Ends, fields_after}
 use Rattle.text.specs.SplitLaws.{fields_first, part_front}
-use Rattle.text.specs.CallLaws.{call_ranged}
+use Rattle.text.specs.CallLaws.{known_ranged}
 use Rattle.text.specs.GateLaws.{gate_fields_ranged}
 use Rattle.text.specs.declared.args.Args.TheVariants.{Zero}
 use Rattle.text.specs.declared.call.Call.{Call}
 use Rattle.text.specs.declared.call.Refusal.{Refusal}
-use Rattle.text.specs.ArgsLaws.{known_lem}
 
 pub line_gate : {s : Bytes} {e : ℕ} → Ends tab s 0 e → same_bytes (take e s) (bytes "gate") ≡ true
     → gate_call_fields (fields_after s e) ≡ read_line s
@@ -35,9 +34,7 @@ fields_ranged (w ∷ fs) = go (same_bytes w (bytes "gate"))
     go : (t : Bool) → Ranged (cond t (gate_call_fields fs)
         (known_call (word_of w) (numbers most_digits (Some Zero) fs)))
     go true = gate_fields_ranged fs
-    go false =
-        known_lem Ranged _ _ tt
-        (λ w. known_lem Ranged _ _ tt (call_ranged w) (numbers most_digits (Some Zero) fs)) (word_of w)
+    go false = known_ranged (word_of w) (numbers most_digits (Some Zero) fs)
 
 pub line_ranged : (line : Bytes) → Ranged (read_line line)
 unfolding read_line

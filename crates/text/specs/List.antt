@@ -10,7 +10,8 @@ use Rattle.text.specs.Session.{Capacity, at_most}
 use Rattle.text.specs.Check.{item_of, items, gate_items}
 use Rattle.text.specs.VerdictSession.{NumberedCall, gate_calls, at_line, gates_calls, list_calls}
 use Rattle.text.specs.Split.{end_from, part}
-use Rattle.text.specs.Engine.{Contents, contents, EngineInvariant, KeepsEngine, IsEngine}
+use Rattle.text.specs.Engine.{contents, EngineInvariant, KeepsEngine, IsEngine}
+use Rattle.text.specs.declared.engine.Contents.{Contents}
 use Rattle.text.specs.Perform.{PerformState, ruling_from}
 use Rattle.text.specs.declared.list.Lists.{Lists}
 use Rattle.text.specs.declared.call.Refusal.{Refusal}

@@ -6,7 +6,8 @@ use Rattle.diagram.specs.Node.{capacity}
 use Rattle.diagram.specs.Store.{set_of}
 use Rattle.text.specs.Answer.{SmallAnswer}
 use Rattle.text.specs.Session.{at_most, refuse, settle}
-use Rattle.text.specs.Engine.{Contents, contents, Reply, reply, tally_of, RefusedUnchanged, FullForgets}
+use Rattle.text.specs.Engine.{contents, Reply, reply, tally_of, RefusedUnchanged, FullForgets}
+use Rattle.text.specs.declared.engine.Contents.{Contents}
 use Rattle.text.specs.Engine.{EngineInvariant}
 use Rattle.text.specs.declared.call.Refusal.{Refusal}
 use Rattle.text.specs.declared.call.Refusal.TheVariants.{Depends}

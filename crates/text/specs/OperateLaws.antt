@@ -5,7 +5,8 @@ use Rattle.std.proofs.Common.{arith}
 use Rattle.diagram.specs.Tensor.{indices}
 use Rattle.diagram.specs.Tally.{Step}
 use Rattle.text.specs.Session.{refuse}
-use Rattle.text.specs.Engine.{Contents, Reply, tally_of, SetsRegister, EngineInvariant}
+use Rattle.text.specs.Engine.{Reply, tally_of, SetsRegister, EngineInvariant}
+use Rattle.text.specs.declared.engine.Contents.{Contents}
 use Rattle.text.specs.Operate.{SetsUnless}
 use Rattle.text.specs.RespondLaws.{refused_forgets}
 use Rattle.text.specs.declared.call.Refusal.TheVariants.{Depends}

@@ -4,7 +4,8 @@ use Rattle.diagram.specs.Node.{capacity}
 use Rattle.text.specs.Session.{Capacity, at_most}
 use Rattle.text.specs.VerdictSession.{NumberedCall, perform, ruling_at_end, at_line}
 use Rattle.text.specs.Ruling.{Ruling, no_at}
-use Rattle.text.specs.Engine.{Contents, contents, tally_of, EngineInvariant}
+use Rattle.text.specs.Engine.{contents, tally_of, EngineInvariant}
+use Rattle.text.specs.declared.engine.Contents.{Contents}
 use Rattle.text.specs.Apply.{drop_collect}
 use Rattle.text.specs.declared.call.Refusal.{Refusal}
 use Rattle.text.specs.declared.check.Fault.TheVariants.{Full}

@@ -17,10 +17,11 @@ use Rattle.text.specs.Ruling.{no_at}
 use Rattle.text.specs.Session.{Capacity, Tally, at_most}
 use Rattle.text.specs.VerdictSession.{PerformResult, continue_with, ruling_at_end, at_line, perform, gate_calls}
 use Rattle.text.specs.VerdictSession.{NumberedCall}
-use Rattle.text.specs.Engine.{Contents, Reply, EngineInvariant, tally_of, SetsRegister}
+use Rattle.text.specs.Engine.{Reply, EngineInvariant, tally_of, SetsRegister}
+use Rattle.text.specs.declared.engine.Contents.{Contents}
 use Rattle.text.specs.Respond.{RespondEnsures}
 use Rattle.text.specs.Apply.{drop_collect, apply_step}
-use Rattle.text.specs.Perform.{ruling_from, PerformsCalls, DropCollectEnsures}
+use Rattle.text.specs.Perform.{PerformState, ruling_from, PerformsCalls, DropCollectEnsures}
 use Rattle.text.specs.QubitsLaws.{gate_rising}
 use Rattle.text.specs.ApplyCallsLaws.{gate_performs, gate_empty}
 use Rattle.text.specs.declared.answer.Answer.{Answer}
@@ -38,6 +39,14 @@ ruling_continue : (c : Capacity) (line : ℕ) (a : Result Answer Refusal) (t : T
 unfolding continue_with ruling_at_end
 ruling_continue c line (Ok a) t f = refl
 ruling_continue c line (Err r) t f = refl
+
+-- where a call was refused, those after it are not run
+
+pub performs_refused : {c s : List ℕ} {a : PerformState} {xs : List Call} → EngineInvariant c s a.engine
+    → a.refused ≡ true
+    → PerformsCalls s c s a xs a
+unfolding ruling_from
+performs_refused p q = record { invariant = p; is = λ line more. rw q }
 
 -- one call
 

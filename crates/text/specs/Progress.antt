@@ -8,7 +8,8 @@ use Rattle.text.specs.Line.{read_line}
 use Rattle.text.specs.Session.{TallyRun, Tally, at_most, with_answer, answer_read, run}
 use Rattle.text.specs.Agrees.{Unchanged, AgreesThroughout, Passes, before_stop}
 use Rattle.text.specs.Split.{part, Ends}
-use Rattle.text.specs.Engine.{Contents, contents, tally_of, EngineInvariant}
+use Rattle.text.specs.Engine.{contents, tally_of, EngineInvariant}
+use Rattle.text.specs.declared.engine.Contents.{Contents}
 use Rattle.text.specs.declared.progress.Progress.{Progress}
 use Rattle.text.specs.declared.progress.SessionResult.{SessionResult}
 use Rattle.text.specs.declared.engine.Engine.{Engine}

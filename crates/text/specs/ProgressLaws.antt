@@ -17,7 +17,8 @@ use Rattle.text.specs.Session.{with_answer, node_count, at_most, TallyRun, run, 
 use Rattle.text.specs.Session as tally
 use Rattle.text.specs.Agrees.{line, Agrees, Passes, before_stop, start, OneLine, AgreesThroughout}
 use Rattle.text.specs.Split.{part, Ends}
-use Rattle.text.specs.Engine.{Contents, Reply, tally_of, EngineInvariant, EngineStartEnsures}
+use Rattle.text.specs.Engine.{Reply, tally_of, EngineInvariant, EngineStartEnsures}
+use Rattle.text.specs.declared.engine.Contents.{Contents}
 use Rattle.text.specs.Respond.{ReplyEnsures}
 use Rattle.text.specs.Progress.{RunState, run_of, AnswerLineEnsures, ResumeLineEnsures, result_of}
 use Rattle.text.specs.Progress.{result_at_start, run_from}

@@ -4,7 +4,8 @@ use Rattle.diagram.specs.Node.{capacity}
 use Rattle.diagram.specs.Registers.{Register, GetEnsures, empty_register}
 use Rattle.text.specs.Answer.{SmallAnswer}
 use Rattle.text.specs.Session.{at_most, answer, answer_read}
-use Rattle.text.specs.Engine.{Contents, contents, Reply, reply, Forgotten, FullForgets, tally_of, RefusedUnchanged}
+use Rattle.text.specs.Engine.{contents, Reply, reply, Forgotten, FullForgets, tally_of, RefusedUnchanged}
+use Rattle.text.specs.declared.engine.Contents.{Contents}
 use Rattle.text.specs.Engine.{EngineInvariant}
 use Rattle.text.specs.declared.call.Call.{Call}
 use Rattle.text.specs.declared.call.Refusal.{Refusal}

@@ -26,7 +26,8 @@ use Rattle.text.specs.Call.{InRange, refusal_number}
 use Rattle.text.specs.Answer.{SmallAnswer}
 use Rattle.text.specs.Session.{TallyReply, refuse, with_tensor, with_register, at_most, answer, settle}
 use Rattle.text.specs.Session.{node_count, accept}
-use Rattle.text.specs.Engine.{Contents, Reply, EngineInvariant, tally_of, FullForgets, SetsRegister}
+use Rattle.text.specs.Engine.{Reply, EngineInvariant, tally_of, FullForgets, SetsRegister}
+use Rattle.text.specs.declared.engine.Contents.{Contents}
 use Rattle.text.specs.Operate.{SetsUnless}
 use Rattle.text.specs.Respond.{RespondEnsures, ReplyEnsures, Forgets}
 use Rattle.text.specs.EngineLaws.{never_full}

@@ -1,11 +1,12 @@
 // What a session holds between two lines, and how a call that sets a register ends.
-ghost use Rattle.std.specs.Prelude.{◌<◌};
+ghost use Rattle.std.specs.Prelude.{◌≡◌, ◌<◌};
 ghost use Rattle.text.specs.Limits.{register_count};
-ghost use Rattle.text.specs.Engine.{KeepsEngine, IsEngine, Starts, MaySet, SetsBy};
+ghost use Rattle.text.specs.Engine.{contents, KeepsEngine, IsEngine, Starts, MaySet, SetsBy};
 
 use crate::answer::Answer;
 use crate::call::Refusal;
 use diagram::diagram::{Diagram, Full};
+use diagram::make::State;
 use diagram::node::Edge;
 use diagram::registers::{RegisterNumber, Registers};
 
@@ -17,7 +18,24 @@ pub struct Engine<'b, 'a> {
     pub registers: Registers,
 }
 
+// What an engine holds beside the bytes of its store and its cache.
+#[derive(Clone, Copy)]
+pub struct Contents {
+    pub state: State,
+    pub registers: Registers,
+}
+
 impl<'b, 'a> Engine<'b, 'a> {
+    // A copy of what it holds now: of the engine itself, which is lent its memory, there can be none.
+    pub fn contents(&self) -> Contents
+        ensures { result ≡ contents self.now }
+    {
+        Contents {
+            state: self.diagram.state,
+            registers: self.registers,
+        }
+    }
+
     // "A session starts with no nodes and empty registers."
     pub fn start(&mut self)
         ensures loans { KeepsEngine self.old self.new }

@@ -1,11 +1,11 @@
 // What a call does and answers (document 01, "Session calls"; document 02, `on` and `lows`). Its line was read, so 1,
 // 2, 4, 5 and 6 are past: "3 from the left; 7; 8".
-ghost use Rattle.std.specs.Prelude.{◌≡◌, ◌<◌, Ok};
+ghost use Rattle.std.specs.Prelude.{◌≡◌, ◌<◌, Ok, IfErr};
 ghost use Rattle.diagram.specs.Diagram.{IsSound};
 ghost use Rattle.text.specs.Limits.{register_count};
 ghost use Rattle.text.specs.Call.{InRange, Ranged};
-ghost use Rattle.text.specs.Engine.{KeepsEngine, IsEngine, HoldsEdges};
-ghost use Rattle.text.specs.Respond.{OperandRead, ReadResponds, PureResponds, Responds, Replies};
+ghost use Rattle.text.specs.Engine.{KeepsEngine, IsEngine, HoldsEdges, RefuseEnsures, contents, reply};
+ghost use Rattle.text.specs.Respond.{OperandRead, ReadResponds, PureEnsures, PureResponds, Responds, Replies};
 ghost use Rattle.text.specs.declared.call.Call.TheVariants as call;
 
 use crate::answer::Answer;
@@ -86,9 +86,10 @@ impl<'b, 'a> Engine<'b, 'a> {
     }
 
     fn drop_register(&mut self, a: RegisterNumber) -> Result<Answer, Refusal>
-        requires { IsEngine self.old × InRange (call.Drop a) }
+        requires { InRange (call.Drop a) }
         ensures loans { KeepsEngine self.old self.new }
-        ensures responds { Responds self.old self.new (call.Drop a) result }
+        ensures diagram { self.new.diagram.now ≡ self.old.diagram.now }
+        ensures responds { PureEnsures (contents self.old) (call.Drop a) (reply result self.new) }
     {
         self.operand(a)?;
         self.registers.clear(a);
@@ -157,6 +158,7 @@ impl<'b, 'a> Engine<'b, 'a> {
         requires { IsEngine self.old × Ranged read }
         ensures loans { KeepsEngine self.old self.new }
         ensures replies { Replies self.old self.new read result }
+        ensures refused { IfErr read (λ why. RefuseEnsures self.old self.new why result) }
     {
         self.respond(read?)
     }

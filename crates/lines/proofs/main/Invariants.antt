@@ -3,6 +3,5 @@ use Rattle.text.specs.Limits.{line_room}
 use Rattle.text.specs.Squeeze.{SqueezeFits}
 use Rattle.lines.proofs.main.Given as goal
 
-abbrev pub invariant-loop-b : goal.invariant-loop-b
-invariant-loop-b l = (line_room ≤ length l.line) × (SqueezeFits l.squeeze ×
-    ((goal.iterator-loop-b).can_next l.b-iterator × (goal.iterator-loop-b).is_finite l.b-iterator))
+abbrev pub invariant-loop : goal.invariant-loop
+invariant-loop l = (line_room ≤ length l.line) × SqueezeFits l.squeeze

@@ -3,8 +3,8 @@ use Rattle.diagram.specs.JoinLaws.{join_equal, normalise_allowed, join_full, joi
 use borrow.Author.Rules.{rules}
 use Rattle.diagram.proofs.diagram.Diagram.join.Goals as goal
 
-pub returns-then-eq-clause-does : goal.returns-then-eq-clause-does
-returns-then-eq-clause-does c = search (rules, join_equal)
+pub returns-then-equal-clause-does : goal.returns-then-equal-clause-does
+returns-then-equal-clause-does c = search (rules, join_equal)
 
 pub normalise-x-requires : goal.normalise-x-requires
 normalise-x-requires c = search (rules, normalise_allowed)

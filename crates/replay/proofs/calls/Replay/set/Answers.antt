@@ -1,5 +1,5 @@
 use borrow.Author.Rules.{rules}
-use Rattle.replay.specs.ReplayLaws.{may_undo, attempt_edge}
+use Rattle.replay.specs.ReplayLaws.{may_undo, attempt_loans, attempt_edge}
 use Rattle.replay.proofs.calls.Replay.set.Goals as goal
 
 pub attempt-requires : goal.attempt-requires
@@ -12,5 +12,12 @@ attempt-requires g c =
       },
     )
 
-pub returns-in-Ok : goal.returns-in-Ok
-returns-in-Ok g c = attempt_edge c.args.self.now c.args.d c.requires.gives c.attempt.ensures c.in-Ok.is (search rules)
+pub returns-in-Ok-clause-loans : goal.returns-in-Ok-clause-loans
+returns-in-Ok-clause-loans g c = attempt_loans c.args.self.now c.requires.gives c.attempt.ensures
+
+pub returns-in-Err-clause-loans : goal.returns-in-Err-clause-loans
+returns-in-Err-clause-loans g c = attempt_loans c.args.self.now c.requires.gives c.attempt.ensures
+
+pub returns-in-Ok-clause-replay : goal.returns-in-Ok-clause-replay
+returns-in-Ok-clause-replay g c =
+    attempt_edge c.args.self.now c.args.d c.requires.gives c.attempt.ensures c.in-Ok.is (search rules)

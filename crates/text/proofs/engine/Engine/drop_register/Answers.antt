@@ -7,7 +7,9 @@ use Rattle.text.proofs.engine.Engine.drop_register.Goals as goal
 pub returns-in_err-operand-clause-responds : goal.returns-in_err-operand-clause-responds
 returns-in_err-operand-clause-responds c =
     let empty : c.from_residual.result ≡ Err Empty = search rules in
-    rw empty (empty_drop c.requires.0 c.in_err-operand.ensures.1)
+    rw empty (record { on = λ s. record { on = λ k p. empty_drop p c.in_err-operand.ensures.1 } })
 
 pub returns-clause-responds : goal.returns-clause-responds
-returns-clause-responds c = responds_drop c.requires.0 c.in_ok-operand.ensures c.clear.ensures
+returns-clause-responds c = record {
+  on = λ s. record { on = λ k p. responds_drop p c.in_ok-operand.ensures c.clear.ensures };
+}
