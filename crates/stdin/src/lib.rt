@@ -1,4 +1,4 @@
-// What the programs read: an input, one read at a time into a lent buffer, or its bytes and texts one after the other.
+// What the programs read: an input, one read at a time into a lent buffer, or its texts one after the other.
 #![tactic(auto)]
 
 pub mod parts;
