@@ -26,9 +26,12 @@ abbrev pub MaySettleIn : List ℕ → List ℕ → State → State → List Regi
 MaySettleIn c s t st rs m = MatchResult m (λ e. (i : ℕ) → Invariant c s t (set rs i (Some e)))
     (λ _. RollbackRequires c s st × RegistersValid st.count rs)
 
--- .. and it has kept store and cache
 abbrev pub MaySet : Replay → Diagram → Result Edge Full → Type 0
-MaySet r d m = KeepsLoans r.diagram d × MaySettleIn d.cache.now d.store.now d.state r.diagram.state r.registers.all m
+MaySet r d m = MaySettleIn d.cache.now d.store.now d.state r.diagram.state r.registers.all m
+
+-- .. and it has kept store and cache
+abbrev pub MaySetWithLoans : Replay → Diagram → Result Edge Full → Type 0
+MaySetWithLoans r d m = KeepsLoans r.diagram d × MaySet r d m
 
 -- the diagram is over the slices that were lent
 abbrev pub KeepsReplay : Replay → Replay → Type 0

@@ -18,7 +18,7 @@ use Rattle.diagram.specs.Diagram.{Does, DoesCached, KeepsCache, KeepsLoans}
 use Rattle.diagram.specs.AttemptLaws.{keeps_cache_loans, keeps_loans_then}
 use Rattle.diagram.specs.declared.diagram.Diagram.{Diagram}
 use Rattle.replay.specs.declared.calls.Replay.{Replay}
-use Rattle.replay.specs.Replay.{IsReplay, cleared, MaySettleIn, MaySet}
+use Rattle.replay.specs.Replay.{IsReplay, cleared, MaySettleIn, MaySet, MaySetWithLoans}
 
 -- a step that remembers its results, and one that leaves the cache alone
 
@@ -40,24 +40,33 @@ invariant_cleared p q = invariant_clear 2 (invariant_clear 1 (invariant_clear 0 
 -- the same of the diagram that a step is lent, and of what it leaves there
 
 pub sets_cached : (f : Step indices) (m : Result Edge Full) {r : Replay} {d d' t : Diagram} → IsReplay r
-    → d ≡ r.diagram → d' ≡ t → KeepsLoans d d' → DoesCached d d' f m → MaySet r t m
-sets_cached f m {r} p q e k h = rw (← e) (rw q at k, settles_cached m p (rw q at h))
+    → d ≡ r.diagram → d' ≡ t → DoesCached d d' f m → MaySet r t m
+sets_cached f m {r} p q e h = rw (← e) (settles_cached m p (rw q at h))
 
 pub sets_step : (f : Step indices) (m : Result Edge Full) {r : Replay} {d d' t : Diagram} → IsReplay r
     → d ≡ r.diagram → d' ≡ t → KeepsCache d d' → Does d d' f m → MaySet r t m
 sets_step f m {r} {d} {d'} p q e k h =
-    rw (← e)
-    (keeps_cache_loans (rw q at k), settles_step d'.store.now d'.state f m p (rw q at k.same_words) (rw q at h))
+    rw (← e) (settles_step d'.store.now d'.state f m p (rw q at k.same_words) (rw q at h))
+
+-- .. over the store and the cache that were lent
+
+pub sets_cached_loans : (f : Step indices) (m : Result Edge Full) {r : Replay} {d d' t : Diagram} → IsReplay r
+    → d ≡ r.diagram → d' ≡ t → KeepsLoans d d' → DoesCached d d' f m → MaySetWithLoans r t m
+sets_cached_loans f m p q e k h = (rw (← e) (rw q at k), sets_cached f m p q e h)
+
+pub sets_step_loans : (f : Step indices) (m : Result Edge Full) {r : Replay} {d d' t : Diagram} → IsReplay r
+    → d ≡ r.diagram → d' ≡ t → KeepsCache d d' → Does d d' f m → MaySetWithLoans r t m
+sets_step_loans f m p q e k h = (rw (← e) (keeps_cache_loans (rw q at k)), sets_step f m p q e k h)
 
 -- what a step leaves, where it did not fit and where it was done
 
 pub may_undo : (r : Replay) (t : Diagram) (m : Result Edge Full) → MaySet r t m
     → UndoRequires t.cache.now t.store.now r.diagram.state m
 may_undo r t (Ok e) h = tt
-may_undo r t (Err x) h = h.1.0
+may_undo r t (Err x) h = h.0
 
 pub attempt_loans : {F : Type 0} {g : Steps F} {step : F} (r : Replay) {d' : Diagram} {m : Result Edge Full}
-    → ((m : Result Edge Full) (t : Diagram) → FnOnceReturnsAtMut g step r.diagram m t → MaySet r t m)
+    → ((m : Result Edge Full) (t : Diagram) → FnOnceReturnsAtMut g step r.diagram m t → MaySetWithLoans r t m)
     → Attempts g step r.diagram d' m → KeepsLoans r.diagram d'
 attempt_loans r gives a = keeps_loans_then (gives _ a.left a.met).0 a.loans
 
@@ -68,4 +77,4 @@ pub attempt_edge : {F : Type 0} {g : Steps F} {step : F} (r : Replay) {d' : Diag
     → Invariant d'.cache.now d'.store.now d'.state rs'
 attempt_edge {g = g} {step} r {d'} i {e = e} gives a q p =
     let b : Attempts g step r.diagram d' (Ok e) = subst (Attempts g step r.diagram d') q a in
-    rw (p, b.ends) ((gives (Ok e) b.left b.met).1 i)
+    rw (p, b.ends) (gives (Ok e) b.left b.met i)

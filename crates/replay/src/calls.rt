@@ -7,7 +7,7 @@ ghost use Rattle.diagram.specs.Diagram.{IsEdge, MayLower};
 ghost use Rattle.diagram.specs.declared.node.Edge as edge;
 ghost use Rattle.diagram.specs.declared.diagram.Diagram as diagrams;
 ghost use Rattle.diagram.specs.declared.diagram.Full as full;
-ghost use Rattle.replay.specs.Replay.{IsReplay, KeepsReplay, MaySet};
+ghost use Rattle.replay.specs.Replay.{IsReplay, KeepsReplay, MaySetWithLoans};
 
 use diagram::diagram::{Diagram, Full};
 use diagram::gate::{Gate, QubitCount};
@@ -47,7 +47,7 @@ impl<'a> Replay<'a> {
         requires ready { IsReplay self.old × (d < 16) }
         requires takes { FnOnceTakesAtMut F.FnOnce step self.old.diagram }
         requires gives { (m : Result edge.Edge full.Full) (t : diagrams.Diagram) →
-            FnOnceReturnsAtMut F.FnOnce step self.old.diagram m t → MaySet self.old t m }
+            FnOnceReturnsAtMut F.FnOnce step self.old.diagram m t → MaySetWithLoans self.old t m }
         ensures loans { KeepsReplay self.old self.new }
         ensures replay { IsReplay self.new }
     {

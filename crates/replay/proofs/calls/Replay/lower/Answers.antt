@@ -2,7 +2,7 @@ use borrow.Author.Rules.{rules}
 use Rattle.std.proofs.Common.{sym, subst}
 use Rattle.diagram.specs.Tally.{low}
 use Rattle.diagram.specs.Diagram.{Ready, MayLower, tensor}
-use Rattle.replay.specs.ReplayLaws.{sets_cached}
+use Rattle.replay.specs.ReplayLaws.{sets_cached_loans}
 use Rattle.replay.proofs.calls.Replay.lower.Goals as goal
 
 pub set-requires : goal.set-requires
@@ -18,7 +18,7 @@ set-requires c =
         search rules,
         (
           λ p e. (let lent = subst (λ x. Ready x a a × MayLower x a k) (sym e) ready in search rules),
-          λ m t h. (let does = h.met in search (rules, sets_cached f m)),
+          λ m t h. (let does = h.met in search (rules, sets_cached_loans f m)),
         ),
       ),
     )

@@ -4,7 +4,7 @@ use Rattle.std.proofs.Common.{sym, subst}
 use Rattle.diagram.specs.Tensor.{bits}
 use Rattle.diagram.specs.Tally.{cont}
 use Rattle.diagram.specs.Diagram.{Ready, tensor}
-use Rattle.replay.specs.ReplayLaws.{sets_cached}
+use Rattle.replay.specs.ReplayLaws.{sets_cached_loans}
 use Rattle.replay.proofs.calls.Replay.multiply.Goals as goal
 
 pub set-requires : goal.set-requires
@@ -20,7 +20,7 @@ set-requires c =
         search rules,
         (
           λ p e. (let lent : Ready p.now a b = subst (λ x. Ready x a b) (sym e) ready in search rules),
-          λ m t h. (let does = h.met in search (rules, sets_cached f m)),
+          λ m t h. (let does = h.met in search (rules, sets_cached_loans f m)),
         ),
       ),
     )

@@ -8,7 +8,7 @@ attempt-requires g c =
       search rules,
       record {
         may = c.requires.takes;
-        ends = λ m t h. may_undo c.args.self.now t m (c.requires.gives m t h);
+        ends = λ m t h. may_undo c.args.self.now t m (c.requires.gives m t h).1;
       },
     )
 
@@ -20,4 +20,5 @@ returns-in-Err-clause-loans g c = attempt_loans c.args.self.now c.requires.gives
 
 pub returns-in-Ok-clause-replay : goal.returns-in-Ok-clause-replay
 returns-in-Ok-clause-replay g c =
-    attempt_edge c.args.self.now c.args.d c.requires.gives c.attempt.ensures c.in-Ok.is (search rules)
+    attempt_edge c.args.self.now c.args.d (λ m t h. (c.requires.gives m t h).1) c.attempt.ensures c.in-Ok.is
+    (search rules)

@@ -4,7 +4,7 @@ use Rattle.diagram.specs.Tensor.{indices}
 use Rattle.diagram.specs.Tally.{build}
 use Rattle.diagram.specs.Gate.{unit_tensor}
 use Rattle.diagram.specs.Diagram.{IsSound}
-use Rattle.replay.specs.ReplayLaws.{sets_step}
+use Rattle.replay.specs.ReplayLaws.{sets_step_loans}
 use Rattle.replay.proofs.calls.Replay.unit.Goals as goal
 
 pub set-requires : goal.set-requires
@@ -15,7 +15,7 @@ set-requires c =
         search rules,
         (
           λ p e. (let sound : IsSound p.now = subst IsSound (sym e) c.requires.0.sound in search rules),
-          λ m t h. (let does = h.met in search (rules, sets_step (build (unit_tensor indices c.args.n)) m)),
+          λ m t h. (let does = h.met in search (rules, sets_step_loans (build (unit_tensor indices c.args.n)) m)),
         ),
       ),
     )
