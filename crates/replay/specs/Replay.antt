@@ -26,6 +26,7 @@ abbrev pub MaySettleIn : List ℕ → List ℕ → State → State → List Regi
 MaySettleIn c s t st rs m = MatchResult m (λ e. (i : ℕ) → Invariant c s t (set rs i (Some e)))
     (λ _. RollbackRequires c s st × RegistersValid st.count rs)
 
+-- the same of a step from the replay r, which has left the diagram d
 abbrev pub MaySet : Replay → Diagram → Result Edge Full → Type 0
 MaySet r d m = MaySettleIn d.cache.now d.store.now d.state r.diagram.state r.registers.all m
 
